@@ -1,0 +1,217 @@
+-- The whole call: a report is faithful, and each refusal is given under its condition and no other, in document 01's order.
+use mathlib.Core.Path.{_≡_, refl, sym, ap, _∙_, subst}
+use mathlib.Core.Logic.{_↔_}
+use mathlib.Core.Bool.{Bool, true, false, cond}
+use mathlib.Core.List.{List, [], _∷_, List·Memᴰ·head}
+use Prim.Native.Nat.{ℕ, _≤_, _<_}
+use native.Mathlib.Omega.{arith}
+use lib.ListN.{length}
+use lib.Dec.{ltb}
+use borrow.Author.Tests.{ltb-true, ltb-false, lt-ltb, le-ltb}
+use Rattle.lists.specs.Tests.{true-false, Tested, tested, passes, fails}
+use Rattle.sheets.specs.Sheet.{Configuration, Sheet}
+use Rattle.sheets.specs.WellFormed.{WellFormed}
+use Rattle.sheets.specs.Reading.{Reading, got, refused, readChoice}
+use Rattle.sheets.specs.ReadingLaws.{choice-reads, read-well-formed}
+use Rattle.comparison.specs.Limits.{Limits, workLength, reportRoom}
+use Rattle.comparison.specs.Set.{explored, fits}
+use Rattle.comparison.specs.Report.{Report, reportOn, reportLength}
+use Rattle.comparison.specs.Call.{Outcome, reported, refusal, start, inRoom, compareStarts, compareSheet, afterReading, compareWith}
+use Rattle.comparison.specs.CountLaws.{getD-member}
+use Rattle.comparison.specs.SetLaws.{PassesLimit, fits-exactly, fits-not-over, explored-closed, explored-seeds}
+use Rattle.comparison.specs.ResultLaws.{result-is, rounds-of}
+use Rattle.comparison.specs.ReportLaws.{report-room-within}
+use Rattle.comparison.specs.Promise.{Faithful}
+use Rattle.comparison.specs.Theorem.{member-some, report-faithful}
+
+-- the report on two starts of a sheet, with the set that grows from them
+abbrev pub reportFor : Limits → Sheet → ℕ → ℕ → Report
+reportFor l sheet left right =
+    reportOn sheet (explored sheet l (start sheet left ∷ start sheet right ∷ [])) (start sheet left) (start sheet right)
+
+-- the seeds of a comparison: both starts
+abbrev pub startsOf : Sheet → ℕ → ℕ → List Configuration
+startsOf sheet left right = start sheet left ∷ start sheet right ∷ []
+
+-- the room named by the limits suffices for a report on two starts
+starts-room : (sheet : Sheet) → WellFormed sheet → (l : Limits) (left right : ℕ)
+    → fits sheet l (explored sheet l (startsOf sheet left right)) ≡ true → reportLength (reportFor l sheet left right) ≤ reportRoom l
+starts-room sheet wf l left right fit =
+    let set : List Configuration = explored sheet l (startsOf sheet left right) in
+    let within = fits-not-over sheet l (startsOf sheet left right) fit in
+    let closed = explored-closed sheet l (startsOf sheet left right) within in
+    let some = member-some set (explored-seeds sheet l (startsOf sheet left right) (start sheet left) (List·Memᴰ·head refl)) in
+    report-room-within sheet l set (start sheet left) (start sheet right) within
+    (omega (arith, result-is sheet set wf closed some .few, rounds-of sheet set wf closed some .some))
+
+-- When the call refuses, and how.
+pub data Refuses (l : Limits) (bytes : List ℕ) (left right work answer : ℕ) : ℕ → ℕ → Type 0 where
+  -- by the sheet or the choice, handed up unaltered
+  by-sheet : {number place : ℕ} → readChoice bytes left right ≡ refused number place → Refuses l bytes left right work answer number place
+  -- 23: the work slice is too short
+  short-work : (sheet : Sheet) (end : ℕ) → readChoice bytes left right ≡ got sheet end → work < workLength → Refuses l bytes left right work answer 23 0
+  -- 21: the set itself passes a limit
+  large-set : (sheet : Sheet) (end : ℕ) → readChoice bytes left right ≡ got sheet end → workLength ≤ work
+      → PassesLimit sheet l (startsOf sheet left right) → Refuses l bytes left right work answer 21 0
+  -- 22: the answer slice is shorter than the report, at the length needed
+  short-answer : (sheet : Sheet) (end : ℕ) → readChoice bytes left right ≡ got sheet end → workLength ≤ work
+      → (PassesLimit sheet l (startsOf sheet left right) → ⊥) → answer < reportLength (reportFor l sheet left right)
+      → Refuses l bytes left right work answer 22 (reportLength (reportFor l sheet left right))
+
+-- When the call reports, and what.
+pub record Reports (l : Limits) (bytes : List ℕ) (left right work answer : ℕ) (r : Report) : Type 0 where
+  pub sheet : Sheet
+  pub end : ℕ
+  pub read : readChoice bytes left right ≡ got sheet end
+  pub work-room : workLength ≤ work
+  pub no-limit : PassesLimit sheet l (startsOf sheet left right) → ⊥
+  pub answer-room : reportLength r ≤ answer
+  pub report : r ≡ reportFor l sheet left right
+
+-- what a call gives
+pub data Gives (l : Limits) (bytes : List ℕ) (left right work answer : ℕ) : Outcome → Type 0 where
+  gives-report : {r : Report} → Reports l bytes left right work answer r → Gives l bytes left right work answer (reported r)
+  gives-refusal : {number place : ℕ} → Refuses l bytes left right work answer number place → Gives l bytes left right work answer (refusal number place)
+
+module _ (l : Limits) (bytes : List ℕ) (left right work answer : ℕ) where
+  -- the fit of the set as a fact about the set itself
+  not-passed : (sheet : Sheet) → fits sheet l (explored sheet l (startsOf sheet left right)) ≡ true → PassesLimit sheet l (startsOf sheet left right) → ⊥
+  not-passed sheet h x =
+      true-false {A = ⊥} (fits sheet l (explored sheet l (startsOf sheet left right))) h (fits-exactly sheet l (startsOf sheet left right) .1 x)
+
+  fit-of : (sheet : Sheet) → (PassesLimit sheet l (startsOf sheet left right) → ⊥) → fits sheet l (explored sheet l (startsOf sheet left right)) ≡ true
+  fit-of sheet n = go (tested (fits sheet l (explored sheet l (startsOf sheet left right))))
+    where
+      go : Tested (fits sheet l (explored sheet l (startsOf sheet left right))) → fits sheet l (explored sheet l (startsOf sheet left right)) ≡ true
+      go (passes h) = h
+      go (fails h) = absurd (n (fits-exactly sheet l (startsOf sheet left right) .0 h))
+
+  -- every call gives a report or a refusal under its condition
+  pub call-gives : Gives l bytes left right work answer (compareWith l bytes left right work answer)
+  unfolding compareWith
+  call-gives = reading (readChoice bytes left right) refl
+    where
+      room : (sheet : Sheet) (end : ℕ) → readChoice bytes left right ≡ got sheet end → workLength ≤ work
+          → (PassesLimit sheet l (startsOf sheet left right) → ⊥)
+          → (b : Bool) → ltb answer (reportLength (reportFor l sheet left right)) ≡ b
+          → Gives l bytes left right work answer
+          (cond b (refusal 22 (reportLength (reportFor l sheet left right))) (reported (reportFor l sheet left right)))
+      room sheet end e w n true h = gives-refusal (short-answer sheet end e w n (ltb-true answer (reportLength (reportFor l sheet left right)) h))
+      room sheet end e w n false h =
+          gives-report (record {
+            sheet = sheet;
+            end = end;
+            read = e;
+            work-room = w;
+            no-limit = n;
+            answer-room = ltb-false answer (reportLength (reportFor l sheet left right)) h;
+            report = refl;
+          })
+
+      size : (sheet : Sheet) (end : ℕ) → readChoice bytes left right ≡ got sheet end → workLength ≤ work
+          → (b : Bool) → fits sheet l (explored sheet l (startsOf sheet left right)) ≡ b
+          → Gives l bytes left right work answer (elim b [ true ↦ inRoom answer (reportFor l sheet left right) | false ↦ refusal 21 0 ])
+      size sheet end e w true h =
+          room sheet end e w (not-passed sheet h) (ltb answer (reportLength (reportFor l sheet left right))) refl
+      size sheet end e w false h = gives-refusal (large-set sheet end e w (fits-exactly sheet l (startsOf sheet left right) .0 h))
+
+      slice : (sheet : Sheet) (end : ℕ) → readChoice bytes left right ≡ got sheet end → (b : Bool) → ltb work workLength ≡ b
+          → Gives l bytes left right work answer
+          (elim b [ true ↦ refusal 23 0 | false ↦ compareStarts l sheet (start sheet left) (start sheet right) answer ])
+      slice sheet end e true h = gives-refusal (short-work sheet end e (ltb-true work workLength h))
+      slice sheet end e false h =
+          size sheet end e (ltb-false work workLength h) (fits sheet l (explored sheet l (startsOf sheet left right))) refl
+
+      reading : (r : Reading Sheet) → readChoice bytes left right ≡ r → Gives l bytes left right work answer (afterReading l left right work answer r)
+      reading (refused number place) e = gives-refusal (by-sheet e)
+      reading (got sheet end) e = slice sheet end e (ltb work workLength) refl
+
+  -- Demand 3 for the call: what is reported is faithful.
+  pub call-faithful : (r : Report) → Reports l bytes left right work answer r
+      → (sheet : Sheet) × (end : ℕ) × (readChoice bytes left right ≡ got sheet end) × Faithful sheet (start sheet left) (start sheet right) r
+  call-faithful r g =
+      let sheet : Sheet = g .sheet in
+      let c = choice-reads bytes left right sheet (g .end) (g .read) in
+      let wf : WellFormed sheet = read-well-formed bytes sheet (g .end) (c .read) in (
+        sheet,
+        g .end,
+        g .read,
+        subst (λ (x : Report). Faithful sheet (start sheet left) (start sheet right) x) (sym (g .report))
+            (report-faithful sheet wf l (start sheet left) (start sheet right)
+            (wf .starts-fit (start sheet left) (getD-member (sheet .starts) left (record { store = 0; threads = [] }) (c .left-start)))
+            (wf .starts-fit (start sheet right) (getD-member (sheet .starts) right (record { store = 0; threads = [] }) (c .right-start)))
+            (fit-of sheet (g .no-limit))),
+      )
+
+  -- ---- the conditions fix what the call gives
+  abbrev called : Outcome
+  called = compareWith l bytes left right work answer
+
+  read-call : (sheet : Sheet) (end : ℕ) → readChoice bytes left right ≡ got sheet end
+      → called ≡ compareSheet l sheet (start sheet left) (start sheet right) work answer
+  unfolding compareWith
+  read-call sheet end e = ap (afterReading l left right work answer) e
+
+  work-call : (sheet : Sheet) (end : ℕ) → readChoice bytes left right ≡ got sheet end → workLength ≤ work
+      → called ≡ compareStarts l sheet (start sheet left) (start sheet right) answer
+  work-call sheet end e w =
+      read-call sheet end e
+      ∙ ap (λ (b : Bool). elim b as (λ _. Outcome) [ true ↦ refusal 23 0 | false ↦ compareStarts l sheet (start sheet left) (start sheet right) answer ]) (le-ltb work workLength w)
+
+  fit-call : (sheet : Sheet) (end : ℕ) → readChoice bytes left right ≡ got sheet end → workLength ≤ work
+      → (PassesLimit sheet l (startsOf sheet left right) → ⊥) → called ≡ inRoom answer (reportFor l sheet left right)
+  fit-call sheet end e w n =
+      work-call sheet end e w
+      ∙ ap (λ (b : Bool). elim b as (λ _. Outcome) [ true ↦ inRoom answer (reportFor l sheet left right) | false ↦ refusal 21 0 ]) (fit-of sheet n)
+
+  refuses-call : {number place : ℕ} → Refuses l bytes left right work answer number place → called ≡ refusal number place
+  unfolding compareWith
+  refuses-call (by-sheet e) = ap (afterReading l left right work answer) e
+  refuses-call (short-work sheet end e w) =
+      read-call sheet end e
+      ∙ ap (λ (b : Bool). elim b as (λ _. Outcome) [ true ↦ refusal 23 0 | false ↦ compareStarts l sheet (start sheet left) (start sheet right) answer ]) (lt-ltb work workLength w)
+  refuses-call (large-set sheet end e w x) =
+      work-call sheet end e w
+      ∙ ap (λ (b : Bool). elim b as (λ _. Outcome) [ true ↦ inRoom answer (reportFor l sheet left right) | false ↦ refusal 21 0 ])
+      (fits-exactly sheet l (startsOf sheet left right) .1 x)
+  refuses-call (short-answer sheet end e w n h) =
+      fit-call sheet end e w n
+      ∙ ap (λ (b : Bool). cond b (refusal 22 (reportLength (reportFor l sheet left right))) (reported (reportFor l sheet left right)))
+      (lt-ltb answer (reportLength (reportFor l sheet left right)) h)
+
+  reports-call : {r : Report} → Reports l bytes left right work answer r → called ≡ reported r
+  reports-call {r} g =
+      fit-call (g .sheet) (g .end) (g .read) (g .work-room) (g .no-limit)
+      ∙ ap (λ (b : Bool). cond b (refusal 22 (reportLength (reportFor l (g .sheet) left right))) (reported (reportFor l (g .sheet) left right)))
+      (le-ltb answer (reportLength (reportFor l (g .sheet) left right)) (subst (λ (x : Report). reportLength x ≤ answer) (g .report) (g .answer-room)))
+      ∙ ap reported (sym (g .report))
+
+  refusal-given : {number place : ℕ} → Gives l bytes left right work answer (refusal number place) → Refuses l bytes left right work answer number place
+  refusal-given (gives-refusal x) = x
+
+  report-given : {r : Report} → Gives l bytes left right work answer (reported r) → Reports l bytes left right work answer r
+  report-given (gives-report x) = x
+
+  -- Demand 1: each refusal occurs under its condition and under no other, and a report under none.
+  pub refuses-exactly : (number place : ℕ) → (compareWith l bytes left right work answer ≡ refusal number place) ↔ Refuses l bytes left right work answer number place
+  refuses-exactly number place = ((λ e. refusal-given (subst (Gives l bytes left right work answer) e call-gives)), refuses-call)
+
+  pub reports-exactly : (r : Report) → (compareWith l bytes left right work answer ≡ reported r) ↔ Reports l bytes left right work answer r
+  reports-exactly r = ((λ e. report-given (subst (Gives l bytes left right work answer) e call-gives)), reports-call)
+
+-- ---- the room that the limits name suffices for every report
+pub room-suffices : (l : Limits) (bytes : List ℕ) (left right work answer : ℕ) (r : Report) → Reports l bytes left right work answer r
+    → reportLength r ≤ reportRoom l
+room-suffices l bytes left right work answer r g =
+    let sheet : Sheet = g .sheet in
+    let c = choice-reads bytes left right sheet (g .end) (g .read) in
+    subst (λ (x : Report). reportLength x ≤ reportRoom l) (sym (g .report))
+    (starts-room sheet (read-well-formed bytes sheet (g .end) (c .read)) l left right (fit-of l bytes left right work answer sheet (g .no-limit)))
+
+-- an answer slice with that room is never too short
+pub never-short : (l : Limits) (bytes : List ℕ) (left right work answer place : ℕ) → reportRoom l ≤ answer
+    → (sheet : Sheet) (end : ℕ) → readChoice bytes left right ≡ got sheet end → workLength ≤ work
+    → (PassesLimit sheet l (startsOf sheet left right) → ⊥) → answer < reportLength (reportFor l sheet left right) → ⊥
+never-short l bytes left right work answer place room sheet end e w n h =
+    let c = choice-reads bytes left right sheet end e in
+    omega (arith, starts-room sheet (read-well-formed bytes sheet end (c .read)) l left right (fit-of l bytes left right work answer sheet n))

@@ -1,0 +1,5 @@
+pub mod Moves
+pub mod Orders
+pub mod LabelLaws
+pub mod MoveLaws
+pub mod StepLaws
