@@ -1,0 +1,115 @@
+-- Lines of cases: where a field or a line ends, and what stands in it.
+use mathlib.Core.Path.{_≡_}
+use mathlib.Core.Bool.{Bool, cond, not, _&&_, _||_}
+use mathlib.Core.List.{List, [], _∷_, _++_}
+use Prim.Native.Nat.{ℕ, suc, _+_, _*_, _-_, _/_, _%_, min}
+use lib.ListN.{length, getD, take, drop}
+use lib.Dec.{eqb, leb, ltb}
+use Rattle.lists.specs.Members.{all}
+use Rattle.lists.specs.Tables.{tabulate}
+use Rattle.lines.specs.Decimal.{value}
+use Rattle.case_lines.specs.declared.Class.{Class}
+use Rattle.case_lines.specs.declared.Class.the-variants.{Digit, Hex, Name}
+use Rattle.case_lines.specs.declared.Parsed.{Parsed}
+use Rattle.case_lines.specs.declared.Parsed.the-variants.{Is, Not}
+use Rattle.case_lines.specs.declared.Line.{Line}
+use Rattle.case_lines.specs.declared.Line.the-variants.{Passed, Malformed, Holds}
+
+-- ---- places
+-- how many bytes stand before the first such byte
+unfoldable pub before : ℕ → List ℕ → ℕ
+before stop [] = 0
+before stop (b ∷ bs) = cond (eqb b stop) 0 (suc (before stop bs))
+
+-- the place of the first such byte from a place on, or the end
+abbrev pub endFrom : ℕ → List ℕ → ℕ → ℕ
+endFrom stop s at = at + before stop (drop at s)
+
+-- the place after it, or the end
+abbrev pub afterFrom : ℕ → List ℕ → ℕ → ℕ
+afterFrom stop s at = min (endFrom stop s at + 1) (length s)
+
+abbrev pub space : ℕ
+space = 32
+
+-- the field that begins at a place
+abbrev pub fieldAt : List ℕ → ℕ → List ℕ
+fieldAt s at = take (before space (drop at s)) (drop at s)
+
+-- ---- bytes
+abbrev pub between : ℕ → ℕ → ℕ → Bool
+between low high b = leb low b && leb b high
+
+-- - and a to z
+abbrev pub dashOrLetter : ℕ → Bool
+dashOrLetter b = eqb b 45 || between 97 122 b
+
+-- 0 to 9; those and a to f; those, - and a to z
+abbrev pub inClass : Class → ℕ → Bool
+inClass Digit b = between 48 57 b
+inClass Hex b = between 48 57 b || between 97 102 b
+inClass Name b = between 48 57 b || dashOrLetter b
+
+abbrev pub hexDigit : ℕ → ℕ
+hexDigit b = cond (ltb b 58) (b - 48) (b - 87)
+
+-- ---- numbers
+-- More digits than these might not fit.
+abbrev pub mostDigits : ℕ
+mostDigits = 19
+
+-- none without a digit, with too many, or with another byte
+abbrev pub numberOf : List ℕ → Parsed
+numberOf ds = cond (eqb (length ds) 0 || (ltb mostDigits (length ds) || not (all (inClass Digit) ds))) Not (Is (value ds))
+
+-- ---- sheets
+-- byte i has its high digit at 2 i and its low digit after that
+abbrev pub byteOf : List ℕ → ℕ → ℕ
+byteOf ds i = 16 * hexDigit (getD ds (2 * i) 0) + hexDigit (getD ds (2 * i + 1) 0)
+
+abbrev pub bytesOf : List ℕ → List ℕ
+bytesOf ds = tabulate (byteOf ds) (length ds / 2)
+
+-- they are not hex digits by twos, or there is no room for the bytes
+abbrev pub undecodable : List ℕ → List ℕ → Bool
+undecodable ds out = not (eqb (length ds % 2) 0) || (ltb (length out) (length ds / 2) || not (all (inClass Hex) ds))
+
+-- the number of bytes
+abbrev pub decodedCount : List ℕ → List ℕ → Parsed
+decodedCount ds out = cond (undecodable ds out) Not (Is (length ds / 2))
+
+-- the slice with the bytes at its start; unchanged where there are none
+abbrev pub decodedInto : List ℕ → List ℕ → List ℕ
+decodedInto ds out = cond (undecodable ds out) out (bytesOf ds ++ drop (length ds / 2) out)
+
+-- digits were decoded into a slice, and the number of bytes is handed back
+pub record Decoded (ds before after : List ℕ) (r : Parsed) : Type 0 where
+  pub count : r ≡ decodedCount ds before
+  pub slice : after ≡ decodedInto ds before
+
+-- ---- lines
+abbrev pub hash : ℕ
+hash = 35
+
+abbrev pub passedOver : List ℕ → Bool
+passedOver line = eqb (length line) 0 || eqb (getD line 0 0) hash
+
+abbrev pub withNumbers : ℕ → ℕ → Parsed → Parsed → Line
+withNumbers name digits (Is l) (Is r) = Holds (record { name = name; left = l; right = r; digits = digits })
+withNumbers name digits (Is l) Not = Malformed
+withNumbers name digits Not r = Malformed
+
+-- an empty name, or a byte that a name may not have
+abbrev pub wrongName : List ℕ → Bool
+wrongName name = eqb (length name) 0 || not (all (inClass Name) name)
+
+-- a name, then two numbers, then the digits
+unfoldable pub caseOf : List ℕ → Line
+caseOf line =
+    let p = afterFrom space line 0 in
+    let q = afterFrom space line p in
+    cond (wrongName (fieldAt line 0)) Malformed
+    (withNumbers (endFrom space line 0) (afterFrom space line q) (numberOf (fieldAt line p)) (numberOf (fieldAt line q)))
+
+abbrev pub lineOf : List ℕ → Line
+lineOf line = cond (passedOver line) Passed (caseOf line)

@@ -1,0 +1,69 @@
+-- What the readers of nodes find.
+use mathlib.Core.Path.{_≡_, sym, ap, _∙_}
+use mathlib.Core.List.{List}
+use Prim.Native.Nat.{ℕ, _+_, _≤_}
+use native.Mathlib.Omega.{arith}
+use lib.ListN.{length, set}
+use Rattle.stores.specs.Stores.{Rule}
+use Rattle.sheets.specs.Limits.{minNodes, maxNodes}
+use Rattle.sheets.specs.Sheet.{Node}
+use Rattle.sheets.specs.Reading.{Reading, got, refused, maxKind, nodeFrom, nodeAt}
+use Rattle.sheets.specs.NodeFields.{nodeFieldsAt}
+use Rattle.sheets.specs.RecordLaws.{oneMore}
+use Rattle.held.specs.Held.{nodeHeld, nodeRead, nodesRead, nodesIn, answerWith}
+use Rattle.held.specs.AnswerLaws.{refused-with, refused-never}
+use Rattle.held.specs.declared.Section.the-variants.{Got, Refused}
+use Rattle.held.specs.declared.Nodes.{Nodes}
+use Rattle.held.specs.declared.NodeRead.{NodeRead}
+use Rattle.held.specs.declared.NodesRead.{NodesRead}
+use Rattle.opening.specs.Table.{OpenedTable}
+use Rattle.node_reader.specs.HeldFirst.{closedFirst, held-closed}
+
+-- one node's fields
+pub record NodeFound (facts : ℕ) (rules : List Rule) (nodes number : ℕ) (s : List ℕ) (at : ℕ) (r : NodeRead) : Type 0 where
+  pub reading : nodeRead r ≡ nodeFieldsAt facts rules nodes number s at
+  pub kind : (k next : ℕ) → r .answer ≡ Got k next → k ≤ maxKind
+
+-- the nodes with one more
+abbrev pub withNode : Nodes → ℕ → ℕ → ℕ → ℕ → Nodes
+withNode ns k kind first second = record { kinds = set (ns .kinds) k kind; firsts = set (ns .firsts) k first; seconds = set (ns .seconds) k second }
+
+-- nodes, with the threads that each opens to
+pub record NodesHeld (s : List ℕ) (r : NodesRead) (n next : ℕ) : Type 0 where
+  pub within : next ≤ length s
+  pub some : minNodes ≤ n
+  pub few : n ≤ maxNodes
+  pub table : OpenedTable (nodesIn (r .nodes) n) (r .opened)
+
+-- one node after those that were read
+pub record NextFound (facts : ℕ) (rules : List Rule) (nodes : ℕ) (s : List ℕ) (read : List Node) (i at : ℕ) (r : NodesRead) : Type 0 where
+  pub reading : nodesRead r ≡ oneMore (nodeAt facts rules nodes s) read at
+  pub held : (k next : ℕ) → r .answer ≡ Got k next → (k ≡ i + 1) × NodesHeld s r k next
+
+-- all nodes
+pub record NodesFound (m : Reading (List Node)) (s : List ℕ) (r : NodesRead) : Type 0 where
+  pub reading : nodesRead r ≡ m
+  pub held : (n next : ℕ) → r .answer ≡ Got n next → NodesHeld s r n next
+
+-- ---- a node, refused or read
+module _ (facts : ℕ) (rules : List Rule) (nodes number : ℕ) (s : List ℕ) (at : ℕ) (r : NodeRead) where
+  pub node-refused : {refusal place : ℕ} → r .answer ≡ Refused refusal place → nodeFieldsAt facts rules nodes number s at ≡ refused refusal place
+      → NodeFound facts rules nodes number s at r
+  node-refused a e = record { reading = refused-with (λ kind. nodeHeld kind (r .first) (r .second)) a ∙ sym e; kind = λ k next g. refused-never a g }
+
+  pub node-got : (kind first next : ℕ) → r .answer ≡ Got kind next → kind ≤ maxKind → r .first ≡ closedFirst rules kind first
+      → nodeFieldsAt facts rules nodes number s at ≡ got (nodeFrom rules kind first (r .second)) next → NodeFound facts rules nodes number s at r
+  node-got kind first next a small f e =
+      record {
+        reading =
+            ap (answerWith (λ k. nodeHeld k (r .first) (r .second))) a
+            ∙ ap (λ (x : ℕ). got (nodeHeld kind x (r .second)) next) f
+            ∙ ap (λ (n : Node). got n next) (held-closed rules kind first (r .second))
+            ∙ sym e;
+        kind = λ k n g. same k n g;
+      }
+    where
+      same : (k n : ℕ) → r .answer ≡ Got k n → k ≤ maxKind
+      same k n g =
+          let h : kind ≡ k = cc in
+          omega arith

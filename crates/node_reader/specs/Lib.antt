@@ -1,0 +1,4 @@
+pub mod HeldFirst
+pub mod Found
+pub mod NextLaws
+pub mod SoFar

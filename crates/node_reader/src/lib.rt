@@ -1,0 +1,192 @@
+// The nodes of a sheet: their fields, their sets closed, and the threads that each opens to.
+use held::NodeRead;
+use held::Nodes;
+use held::NodesRead;
+use held::Opened;
+use held::Section;
+use held::Sheet;
+ghost use mathlib.Core.Path.{_≡_};
+ghost use mathlib.Core.List.{[]};
+ghost use Prim.Native.Nat.{_+_, _≤_, _<_};
+ghost use lib.ListN.{length};
+ghost use Rattle.sheets.specs.Limits.{maxFacts, maxRules, minNodes, maxNodes};
+ghost use Rattle.sheets.specs.Reading.{nodeAt, nodesAt, recordsFrom};
+ghost use Rattle.closing.specs.Layout.{rulesIn};
+ghost use Rattle.held.specs.Held.{nodesIn};
+ghost use Rattle.opening.specs.Table.{OpenedTable};
+ghost use Rattle.node_reader.specs.HeldFirst.{closedFirst};
+ghost use Rattle.node_reader.specs.Found.{NodeFound, NextFound, NodesFound, withNode};
+
+const MAX_THREADS: usize = Sheet::MAX_THREADS as usize;
+
+// The first field as it is held: the set of a tell and an ask is closed.
+fn held_first(rules: &[u16; 64], rule_count: u16, kind: u16, first: u16) -> u16
+    requires { ⌜ «rule_count» ≤ maxRules ⌝ }
+    ensures { λ r. ⌜ r ≡ closedFirst (rulesIn (now (rules .entry)) «rule_count») kind first ⌝ }
+{
+    match kind {
+        1 | 2 => closing::close(rules, rule_count as usize, first),
+        _ => first,
+    }
+}
+
+// The fields of the node with this number, of so many nodes.
+fn node_at(
+    s: &[u8],
+    facts: u16,
+    rules: &[u16; 64],
+    rule_count: u16,
+    nodes: u16,
+    number: u16,
+    at: usize,
+) -> NodeRead
+    requires { ⌜ (at ≤ length (now s)) × (facts ≤ maxFacts) × («rule_count» ≤ maxRules) ⌝ }
+    ensures { λ r. ⌜ NodeFound facts (rulesIn (now (rules .entry)) «rule_count») nodes number (now (s .entry)) at r ⌝ }
+{
+    let k = fields::kind_at(s, at);
+    let Section::Got(kind, p) = k else {
+        return NodeRead {
+            answer: k,
+            first: 0,
+            second: 0,
+        };
+    };
+    let f = fields::first_at(s, kind, facts, number, p);
+    let Section::Got(first, q) = f else {
+        return NodeRead {
+            answer: f,
+            first: 0,
+            second: 0,
+        };
+    };
+    let g = fields::second_at(s, kind, nodes, number, q);
+    let Section::Got(second, next) = g else {
+        return NodeRead {
+            answer: g,
+            first: 0,
+            second: 0,
+        };
+    };
+    NodeRead {
+        answer: Section::Got(kind, next),
+        first: held_first(rules, rule_count, kind, first),
+        second,
+    }
+}
+
+// The nodes with node k put in.
+fn with_node(nodes: Nodes, k: usize, kind: u8, first: u16, second: u16) -> Nodes
+    requires { ⌜ k < maxNodes ⌝ }
+    ensures { λ r. ⌜ r ≡ withNode nodes k kind first second ⌝ }
+{
+    let mut kinds = nodes.kinds;
+    let mut firsts = nodes.firsts;
+    let mut seconds = nodes.seconds;
+    kinds[k] = kind;
+    firsts[k] = first;
+    seconds[k] = second;
+    Nodes {
+        kinds,
+        firsts,
+        seconds,
+    }
+}
+
+// One node more, after the i nodes that are read and in the table.
+fn next_node(
+    s: &[u8],
+    facts: u16,
+    rules: &[u16; 64],
+    rule_count: u16,
+    n: u16,
+    nodes: Nodes,
+    opened: Opened,
+    i: u16,
+    at: usize,
+) -> NodesRead
+    requires { ⌜ (at ≤ length (now s)) × (facts ≤ maxFacts) × («rule_count» ≤ maxRules) × (i < maxNodes) × OpenedTable (nodesIn nodes i) opened ⌝ }
+    ensures { λ r. ⌜ NextFound facts (rulesIn (now (rules .entry)) «rule_count») n (now (s .entry)) (nodesIn nodes i) i at r ⌝ }
+{
+    let r = node_at(s, facts, rules, rule_count, n, i, at);
+    let answer = r.answer;
+    let Section::Got(kind, next) = answer else {
+        return NodesRead {
+            answer,
+            nodes,
+            opened,
+        };
+    };
+    let o = opening::open_node(opened, kind, r.first, r.second, i as usize);
+    if MAX_THREADS < o.count {
+        return NodesRead {
+            answer: Section::Refused(15, at),
+            nodes,
+            opened,
+        };
+    }
+    let table = o.opened;
+    NodesRead {
+        answer: Section::Got(i + 1, next),
+        nodes: with_node(nodes, i as usize, kind as u8, r.first, r.second),
+        opened: table,
+    }
+}
+
+// This answer with no node beside it.
+fn no_nodes(answer: Section) -> NodesRead
+    ensures { λ r. ⌜ r .answer ≡ answer ⌝ }
+{
+    NodesRead {
+        answer,
+        nodes: Nodes {
+            kinds: [0; 64],
+            firsts: [0; 64],
+            seconds: [0; 64],
+        },
+        opened: Opened {
+            counts: [0; 64],
+            threads: [0; 512],
+        },
+    }
+}
+
+// n nodes.
+fn nodes_from(
+    s: &[u8],
+    facts: u16,
+    rules: &[u16; 64],
+    rule_count: u16,
+    n: u16,
+    at: usize,
+) -> NodesRead
+    requires { ⌜ (at ≤ length (now s)) × (facts ≤ maxFacts) × («rule_count» ≤ maxRules) × (minNodes ≤ n) × (n ≤ maxNodes) ⌝ }
+    ensures { λ r. ⌜ NodesFound (recordsFrom (nodeAt facts (rulesIn (now (rules .entry)) «rule_count») n (now (s .entry))) n [] at) (now (s .entry)) r ⌝ }
+{
+    let mut read = no_nodes(Section::Got(0, at));
+    let mut p = at;
+    let mut i: u16 = 0;
+    while i < n {
+        let nodes = read.nodes;
+        let opened = read.opened;
+        read = next_node(s, facts, rules, rule_count, n, nodes, opened, i, p);
+        let answer = read.answer;
+        let Section::Got(_, next) = answer else {
+            return read;
+        };
+        p = next;
+        i += 1;
+    }
+    read
+}
+
+// The nodes and the threads that each opens to.
+pub fn nodes_at(s: &[u8], facts: u16, rules: &[u16; 64], rule_count: u16, at: usize) -> NodesRead
+    requires { ⌜ (at ≤ length (now s)) × (facts ≤ maxFacts) × («rule_count» ≤ maxRules) ⌝ }
+    ensures { λ r. ⌜ NodesFound (nodesAt facts (rulesIn (now (rules .entry)) «rule_count») (now (s .entry)) at) (now (s .entry)) r ⌝ }
+{
+    let r = fields::count_at(s, at, Sheet::MIN_NODES, Sheet::MAX_NODES, 7);
+    let Section::Got(n, next) = r else {
+        return no_nodes(r);
+    };
+    nodes_from(s, facts, rules, rule_count, n, next)
+}

@@ -1,0 +1,147 @@
+-- After i rules, those in memory and what is left to read give what the whole gives.
+use mathlib.Core.List.{[]}
+use lib.ListN.{length, replicate, length-set}
+use Rattle.sheets.specs.Reading.{got, recordsFrom}
+use Rattle.sheets.specs.RecordLaws.{records-none, records-refused}
+use Rattle.held.specs.AnswerLaws.{answer-got, answer-refused, refused-with}
+use Rattle.closing.specs.Layout.{rulesIn}
+use Rattle.sheets.specs.FieldLaws.{set-gets, premise-gets}
+use Rattle.sheets.specs.SectionLaws.{rule-no-premise, rule-no-conclusion, rule-got}
+use Rattle.rule_reader.specs.RuleLoop.{ruleItem, rules-first, rules-next}
+use borrow.Author.Needs.{needs}
+use native.Mathlib.Omega.{arith}
+use Prim.Native.Nat.{ℕ, _-_, _≤_}
+use mathlib.Core.Path.{_≡_, sym, ap, _∙_}
+use Rattle.rule_reader.proofs.rules_from.Statement.{statement}
+use Rattle.rule_reader.proofs.rules_from.Tie as tie
+
+abbrev Inv-loop : tie.InvT-loop
+Inv-loop s facts n at rules₀ p₀ i₀ rules p i =
+    (i ≤ n) × (p ≤ length s) × (length rules ≡ 64) × (recordsFrom (ruleItem facts s) (n - i) (rulesIn rules i) p ≡ recordsFrom (ruleItem facts s) n [] at)
+
+abbrev μ-loop : tie.MeasureT-loop
+μ-loop s facts n at rules₀ p₀ i₀ rules p i = n - i
+
+loop-holds : tie.Need-loop-holds Inv-loop μ-loop
+loop-holds c =
+    let a = c .before .args in
+    (search needs, search needs, search needs, rules-first (a .facts) (a .s .now) (a .n) (replicate 64 0) (a .at))
+
+premise-at-requires : tie.Need-premise-at-requires Inv-loop μ-loop
+premise-at-requires c κs = search needs
+
+enum-known-x : tie.Need-enum-known-x Inv-loop μ-loop
+enum-known-x c = search needs
+
+enum-told : tie.Need-enum-told Inv-loop μ-loop
+enum-told c = search needs
+
+returns : tie.Need-returns Inv-loop μ-loop
+returns c =
+    let a = c .before .before .before .before .before .before .args in
+    let l = c .before .before .before .before .loop in
+    let wrong = answer-refused (c .before .before .premise-at .ensures) (c .enum-told .given .1) in
+    refused-with (rulesIn (l .rules)) (c .enum-told .given .1)
+    ∙ sym (records-refused (ruleItem (a .facts) (a .s .now)) (a .n) (l .i) (rulesIn (l .rules) (l .i)) (l .p) _ _ (omega arith)
+    (rule-no-premise (a .facts) (a .s .now) (l .p) wrong))
+    ∙ l .inv .3
+
+set-at-requires : tie.Need-set-at-requires Inv-loop μ-loop
+set-at-requires c κs =
+    let a = c .before .before .before .before .before .before .before .args in
+    let premise = answer-got (c .before .before .before .premise-at .ensures) (c .before .x .given .1) in
+    (premise-gets (a .s .now) (c .before .before .before .before .before .loop .p) (a .facts) .holds _ _ premise .0 .within, search needs)
+
+enum-known-y : tie.Need-enum-known-y Inv-loop μ-loop
+enum-known-y c = search needs
+
+enum-told-2 : tie.Need-enum-told-2 Inv-loop μ-loop
+enum-told-2 c = search needs
+
+returns-2 : tie.Need-returns-2 Inv-loop μ-loop
+returns-2 c =
+    let a = c .before .before .before .before .before .before .before .before .before .before .args in
+    let l = c .before .before .before .before .before .before .before .before .loop in
+    let premise = answer-got (c .before .before .before .before .before .before .premise-at .ensures) (c .before .before .before .before .x .given .1) in
+    let wrong = answer-refused (c .before .before .set-at .ensures) (c .enum-told2 .given .1) in
+    refused-with (rulesIn (l .rules)) (c .enum-told2 .given .1)
+    ∙ sym (records-refused (ruleItem (a .facts) (a .s .now)) (a .n) (l .i) (rulesIn (l .rules) (l .i)) (l .p) _ _ (omega arith)
+    (rule-no-conclusion (a .facts) (a .s .now) (l .p) premise wrong))
+    ∙ l .inv .3
+
+cast-k : tie.Need-cast-k Inv-loop μ-loop
+cast-k c = search needs
+
+mul-k : tie.Need-mul-k Inv-loop μ-loop
+mul-k c = search needs
+
+mul-rules : tie.Need-mul-rules Inv-loop μ-loop
+mul-rules c = search needs
+
+array-write-rules : tie.Need-array-write-rules Inv-loop μ-loop
+array-write-rules c = search needs
+
+add-rules : tie.Need-add-rules Inv-loop μ-loop
+add-rules c = search needs
+
+mul-rules-2 : tie.Need-mul-rules-2 Inv-loop μ-loop
+mul-rules-2 c = search needs
+
+array-write-rules-2 : tie.Need-array-write-rules-2 Inv-loop μ-loop
+array-write-rules-2 c = search needs
+
+add-i : tie.Need-add-i Inv-loop μ-loop
+add-i c = search needs
+
+loop-less : tie.Need-loop-less Inv-loop μ-loop
+loop-less c = search needs
+
+loop-again : tie.Need-loop-again Inv-loop μ-loop
+loop-again c =
+    let a = c .before .before .before .before .before .before .before .before .before .before .before .args in
+    let l = c .before .before .before .before .before .before .before .before .before .loop in
+    let premise = answer-got (c .before .before .before .before .before .before .before .premise-at .ensures) (c .before .before .before .before .before .x .given .1) in
+    let conclusion = answer-got (c .before .before .before .set-at .ensures) (c .before .y .given .1) in (
+      search needs,
+      set-gets (a .s .now) (c .before .before .before .before .before .x .given .0 .1 .0) (a .facts) .holds _ _ conclusion .0 .within,
+      simp length-set (omega arith),
+      sym (rules-next (a .facts) (a .s .now) (a .n) (l .rules) (l .i) (l .p) (omega arith) (omega arith)
+          (rule-got (a .facts) (a .s .now) (l .p) premise conclusion))
+          ∙ l .inv .3,
+    )
+
+returns-3 : tie.Need-returns-3 Inv-loop μ-loop
+returns-3 c =
+    let a = c .before .before .before .args in
+    let l = c .before .loop in
+    let e : l .i ≡ a .n = omega arith in
+    ap (λ (k : ℕ). got (rulesIn (l .rules) k) (l .p)) (sym e)
+    ∙ sym (records-none (ruleItem (a .facts) (a .s .now)) (a .n) (l .i) (rulesIn (l .rules) (l .i)) (l .p) (omega arith))
+    ∙ l .inv .3
+
+pub rules-from-spec : {M : Type 1} → statement M
+rules-from-spec =
+    tie.close
+    (tie.spec
+    Inv-loop
+    μ-loop
+    loop-holds
+    premise-at-requires
+    enum-known-x
+    enum-told
+    returns
+    set-at-requires
+    enum-known-y
+    enum-told-2
+    returns-2
+    cast-k
+    mul-k
+    mul-rules
+    array-write-rules
+    add-rules
+    mul-rules-2
+    array-write-rules-2
+    add-i
+    loop-less
+    loop-again
+    returns-3)

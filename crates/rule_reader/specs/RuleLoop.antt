@@ -1,0 +1,30 @@
+-- The loop over the rules: i of n are in memory, and p is the place of the next.
+use mathlib.Core.Path.{_≡_, sym, ap, _∙_}
+use mathlib.Core.List.{List, []}
+use Prim.Native.Nat.{ℕ, _+_, _-_, _*_, _≤_, _<_}
+use native.Mathlib.Omega.{arith}
+use lib.ListN.{length}
+use Rattle.lists.specs.Tables.{tabulate-none}
+use Rattle.stores.specs.Stores.{Rule}
+use Rattle.sheets.specs.Reading.{Reading, got, ruleAt, recordsFrom}
+use Rattle.sheets.specs.RecordLaws.{records-next}
+use Rattle.closing.specs.Layout.{ruleIn, rulesIn}
+use Rattle.closing.specs.LayoutLaws.{putRule, rules-put}
+
+-- one rule, whatever stands before it
+abbrev pub ruleItem : ℕ → List ℕ → List Rule → ℕ → Reading Rule
+ruleItem facts s read p = ruleAt facts s p
+
+module _ (facts : ℕ) (s : List ℕ) (n : ℕ) where
+  pub rules-first : (rules : List ℕ) (at : ℕ) → recordsFrom (ruleItem facts s) (n - 0) (rulesIn rules 0) at ≡ recordsFrom (ruleItem facts s) n [] at
+  rules-first rules at =
+      let e : n - 0 ≡ n = omega arith in
+      rw (e, tabulate-none (ruleIn rules))
+
+  pub rules-next : (rules : List ℕ) (i p : ℕ) {premise conclusion next : ℕ} → i < n → 2 * i + 2 ≤ length rules
+      → ruleAt facts s p ≡ got (record { premise = premise; conclusion = conclusion }) next
+      → recordsFrom (ruleItem facts s) (n - i) (rulesIn rules i) p
+      ≡ recordsFrom (ruleItem facts s) (n - (i + 1)) (rulesIn (putRule rules i premise conclusion) (i + 1)) next
+  rules-next rules i p {premise} {conclusion} {next} h l e =
+      records-next (ruleItem facts s) n i (rulesIn rules i) p next (record { premise = premise; conclusion = conclusion }) h e
+      ∙ ap (λ (rs : List Rule). recordsFrom (ruleItem facts s) (n - (i + 1)) rs next) (sym (rules-put rules i premise conclusion l))

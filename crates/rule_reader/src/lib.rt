@@ -1,0 +1,55 @@
+// The rules of a sheet.
+use held::RulesRead;
+use held::Section;
+use held::Sheet;
+ghost use mathlib.Core.Path.{_≡_};
+ghost use mathlib.Core.List.{[]};
+ghost use Prim.Native.Nat.{_≤_};
+ghost use lib.ListN.{length};
+ghost use Rattle.held.specs.Held.{rulesRead};
+ghost use Rattle.sheets.specs.Limits.{maxFacts, maxRules};
+ghost use Rattle.sheets.specs.Reading.{recordsFrom, ruleAt, rulesAt};
+
+// n rules.
+fn rules_from(s: &[u8], facts: u16, n: u16, at: usize) -> RulesRead
+    requires { ⌜ (at ≤ length (now s)) × (facts ≤ maxFacts) × (n ≤ maxRules) ⌝ }
+    ensures { λ r. ⌜ rulesRead r ≡ recordsFrom (λ read p. ruleAt facts (now (s .entry)) p) n [] at ⌝ }
+{
+    let mut rules = [0u16; 64];
+    let mut p = at;
+    let mut i: u16 = 0;
+    while i < n {
+        let x = fields::premise_at(s, facts, p);
+        let Section::Got(premise, q) = x else {
+            return RulesRead { answer: x, rules };
+        };
+        let y = fields::set_at(s, facts, q);
+        let Section::Got(conclusion, next) = y else {
+            return RulesRead { answer: y, rules };
+        };
+        let k = 2 * (i as usize);
+        rules[k] = premise;
+        rules[k + 1] = conclusion;
+        p = next;
+        i += 1;
+    }
+    RulesRead {
+        answer: Section::Got(n, p),
+        rules,
+    }
+}
+
+// The rules, after their count.
+pub fn rules_at(s: &[u8], facts: u16, at: usize) -> RulesRead
+    requires { ⌜ (at ≤ length (now s)) × (facts ≤ maxFacts) ⌝ }
+    ensures { λ r. ⌜ rulesRead r ≡ rulesAt facts (now (s .entry)) at ⌝ }
+{
+    let r = fields::count_at(s, at, 0, Sheet::MAX_RULES, 4);
+    let Section::Got(n, next) = r else {
+        return RulesRead {
+            answer: r,
+            rules: [0; 64],
+        };
+    };
+    rules_from(s, facts, n, next)
+}

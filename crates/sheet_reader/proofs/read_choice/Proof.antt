@@ -1,0 +1,71 @@
+-- `read_choice` hands up the sheet's refusal, and refuses a start that is not on the sheet, the left first.
+use mathlib.Core.Path.{refl}
+use Rattle.sheets.specs.Reading.{readSheet, readChoice}
+use Rattle.sheets.specs.ReadingLaws.{choice-no-sheet}
+use Rattle.held.specs.Held.{sheetOf}
+use Rattle.held.specs.AnswerLaws.{with-refused}
+use Rattle.sheet_reader.specs.Found.{found-no-left, found-no-right, found-chosen, refusal-up, sheet-refused}
+use borrow.Author.Needs.{needs}
+use Rattle.sheet_reader.proofs.read_choice.Statement.{statement}
+use Rattle.sheet_reader.proofs.read_choice.Tie as tie
+
+read-sheet-requires : tie.Need-read-sheet-requires
+read-sheet-requires c κs = search needs
+
+enum-known-answer : tie.Need-enum-known-answer
+enum-known-answer c = search needs
+
+enum-told : tie.Need-enum-told
+enum-told c = search needs
+
+returns : tie.Need-returns
+returns c =
+    let a = c .before .before .before .before .args in
+    let r = c .before .before .read-sheet in
+    let told = c .enum-told .given .1 in
+    refusal-up (readSheet (a .s .now)) (readChoice (a .s .now) (a .left) (a .right)) (r .result) (r .ensures) told
+    (choice-no-sheet (a .s .now) (a .left) (a .right) (with-refused (λ _. sheetOf (r .result .sheet)) (r .ensures .reading) told))
+
+cast-starts : tie.Need-cast-starts
+cast-starts c = search needs
+
+no-sheet-requires : tie.Need-no-sheet-requires
+no-sheet-requires c κs = search needs
+
+returns-2 : tie.Need-returns-2
+returns-2 c =
+    let a = c .before .before .before .before .before .before .before .args in
+    let r = c .before .before .before .before .before .read-sheet in
+    sheet-refused (readChoice (a .s .now) (a .left) (a .right)) (c .no-sheet .result) (c .no-sheet .ensures) refl
+    (found-no-left (a .s .now) (a .left) (a .right) (r .result) (r .ensures) (c .before .before .before .answer .given .1) (c .before .if1 .taken))
+
+no-sheet-requires-2 : tie.Need-no-sheet-requires-2
+no-sheet-requires-2 c κs = search needs
+
+returns-3 : tie.Need-returns-3
+returns-3 c =
+    let a = c .before .before .before .before .before .before .before .before .args in
+    let r = c .before .before .before .before .before .before .read-sheet in
+    sheet-refused (readChoice (a .s .now) (a .left) (a .right)) (c .no-sheet2 .result) (c .no-sheet2 .ensures) refl
+    (found-no-right (a .s .now) (a .left) (a .right) (r .result) (r .ensures) (c .before .before .before .before .answer .given .1) (c .before .before .if1 .left) (c .before .if2 .taken))
+
+returns-4 : tie.Need-returns-4
+returns-4 c =
+    let a = c .before .before .before .before .before .before .before .args in
+    let r = c .before .before .before .before .before .read-sheet in
+    found-chosen (a .s .now) (a .left) (a .right) (r .result) (r .ensures) (c .before .before .before .answer .given .1) (c .before .if1 .left) (c .if2 .left)
+
+pub read-choice-spec : {M : Type 1} → statement M
+read-choice-spec =
+    tie.close
+    (tie.spec
+    read-sheet-requires
+    enum-known-answer
+    enum-told
+    returns
+    cast-starts
+    no-sheet-requires
+    returns-2
+    no-sheet-requires-2
+    returns-3
+    returns-4)

@@ -1,0 +1,166 @@
+-- `read_sheet` reads the sections one after another; the first refusal is handed up, and the sheet is made of what was read.
+use mathlib.Core.Path.{refl, sym, _∙_}
+use Rattle.sheets.specs.Reading.{readSheet}
+use Rattle.closing.specs.Layout.{rulesIn}
+use Rattle.held.specs.Held.{nodesIn, startsIn}
+use Rattle.held.specs.AnswerLaws.{answer-got, answer-refused, with-got, with-refused, same-value, refused-never}
+use Rattle.sheets.specs.FieldLaws.{facts-gets}
+use Rattle.sheets.specs.SectionLaws.{rules-gets}
+use Rattle.sheets.specs.ReadingLaws.{no-facts, no-rules, no-nodes, no-starts, more-bytes, all-read}
+use Rattle.sheet_reader.specs.Found.{sheet-refused, count-few}
+use borrow.Author.Needs.{needs}
+use Rattle.sheet_reader.proofs.read_sheet.Statement.{statement}
+use Rattle.sheet_reader.proofs.read_sheet.Tie as tie
+
+facts-at-requires : tie.Need-facts-at-requires
+facts-at-requires c κs = search needs
+
+enum-known-f : tie.Need-enum-known-f
+enum-known-f c = search needs
+
+enum-told : tie.Need-enum-told
+enum-told c = search needs
+
+no-sheet-requires : tie.Need-no-sheet-requires
+no-sheet-requires c κs = search needs
+
+returns : tie.Need-returns
+returns c =
+    let told = c .before .enum-told .given .1 in
+    sheet-refused (readSheet (c .before .before .before .before .before .args .s .now)) (c .no-sheet .result) (c .no-sheet .ensures) told
+    (no-facts (c .before .before .before .before .before .args .s .now) (answer-refused (c .before .before .before .facts-at .ensures) told))
+
+rules-at-requires : tie.Need-rules-at-requires
+rules-at-requires c κs =
+    let s = c .before .before .before .before .before .args .s .now in
+    let f = answer-got (c .before .before .before .facts-at .ensures) (c .before .f .given .1) in
+    let n = facts-gets s 0 .holds _ _ f in
+    (n .1 .within, n .0)
+
+enum-known-g : tie.Need-enum-known-g
+enum-known-g c = search needs
+
+enum-told-2 : tie.Need-enum-told-2
+enum-told-2 c = search needs
+
+no-sheet-requires-2 : tie.Need-no-sheet-requires-2
+no-sheet-requires-2 c κs = search needs
+
+returns-2 : tie.Need-returns-2
+returns-2 c =
+    let s = c .before .before .before .before .before .before .before .before .before .args .s .now in
+    let f = answer-got (c .before .before .before .before .before .before .before .facts-at .ensures) (c .before .before .before .before .before .f .given .1) in
+    let told = c .before .enum-told2 .given .1 in
+    sheet-refused (readSheet s) (c .no-sheet2 .result) (c .no-sheet2 .ensures) told
+    (no-rules s f (with-refused (rulesIn (c .before .before .before .rules-at .result .rules)) (c .before .before .before .rules-at .ensures) told))
+
+nodes-at-requires : tie.Need-nodes-at-requires
+nodes-at-requires c κs =
+    let s = c .before .before .before .before .before .before .before .before .before .before .before .args .s .now in
+    let f = answer-got (c .before .before .before .before .before .before .before .before .before .facts-at .ensures) (c .before .before .before .before .before .before .before .f .given .1) in
+    let g = with-got (rulesIn (c .before .before .before .before .before .rules-at .result .rules)) (c .before .before .before .before .before .rules-at .ensures) (c .before .before .before .g .given .1) in
+    let n = facts-gets s 0 .holds _ _ f in
+    let r = rules-gets _ s _ .holds _ _ g in
+    (r .0 .taken .within, n .0, count-few (c .before .before .before .before .before .rules-at .result .rules) _ (r .0 .few))
+
+enum-known-h : tie.Need-enum-known-h
+enum-known-h c = search needs
+
+enum-told-3 : tie.Need-enum-told-3
+enum-told-3 c = search needs
+
+no-sheet-requires-3 : tie.Need-no-sheet-requires-3
+no-sheet-requires-3 c κs = search needs
+
+returns-3 : tie.Need-returns-3
+returns-3 c =
+    let s = c .before .before .before .before .before .before .before .before .before .before .before .before .before .before .before .args .s .now in
+    let f = answer-got (c .before .before .before .before .before .before .before .before .before .before .before .before .before .facts-at .ensures) (c .before .before .before .before .before .before .before .before .before .before .before .f .given .1) in
+    let g = with-got (rulesIn (c .before .before .before .before .before .before .before .before .before .rules-at .result .rules)) (c .before .before .before .before .before .before .before .before .before .rules-at .ensures) (c .before .before .before .before .before .before .before .g .given .1) in
+    let told = c .before .enum-told3 .given .1 in
+    sheet-refused (readSheet s) (c .no-sheet3 .result) (c .no-sheet3 .ensures) told
+    (no-nodes s f g (with-refused (nodesIn (c .before .before .before .nodes-at .result .nodes)) (c .before .before .before .nodes-at .ensures .reading) told))
+
+starts-at-requires : tie.Need-starts-at-requires
+starts-at-requires c κs =
+    let s = c .before .before .before .before .before .before .before .before .before .before .before .before .before .before .before .before .args .s .now in
+    let f = answer-got (c .before .before .before .before .before .before .before .before .before .before .before .before .before .before .facts-at .ensures) (c .before .before .before .before .before .before .before .before .before .before .before .before .f .given .1) in
+    let g = with-got (rulesIn (c .before .before .before .before .before .before .before .before .before .before .rules-at .result .rules)) (c .before .before .before .before .before .before .before .before .before .before .rules-at .ensures) (c .before .before .before .before .before .before .before .before .g .given .1) in
+    let n = facts-gets s 0 .holds _ _ f in
+    let r = rules-gets _ s _ .holds _ _ g in
+    let m = c .before .before .before .before .nodes-at .ensures .held _ _ (c .before .before .h .given .1) in
+    (m .within, n .0, count-few (c .before .before .before .before .before .before .before .before .before .before .rules-at .result .rules) _ (r .0 .few), m .few, m .table)
+
+enum-known-k : tie.Need-enum-known-k
+enum-known-k c = search needs
+
+enum-told-4 : tie.Need-enum-told-4
+enum-told-4 c = search needs
+
+no-sheet-requires-4 : tie.Need-no-sheet-requires-4
+no-sheet-requires-4 c κs = search needs
+
+returns-4 : tie.Need-returns-4
+returns-4 c =
+    let s = c .before .before .before .before .before .before .before .before .before .before .before .before .before .before .before .before .before .before .before .before .args .s .now in
+    let f = answer-got (c .before .before .before .before .before .before .before .before .before .before .before .before .before .before .before .before .before .before .facts-at .ensures) (c .before .before .before .before .before .before .before .before .before .before .before .before .before .before .before .before .f .given .1) in
+    let g = with-got (rulesIn (c .before .before .before .before .before .before .before .before .before .before .before .before .before .before .rules-at .result .rules)) (c .before .before .before .before .before .before .before .before .before .before .before .before .before .before .rules-at .ensures) (c .before .before .before .before .before .before .before .before .before .before .before .before .g .given .1) in
+    let h = with-got (nodesIn (c .before .before .before .before .before .before .before .before .nodes-at .result .nodes)) (c .before .before .before .before .before .before .before .before .nodes-at .ensures .reading) (c .before .before .before .before .before .before .h .given .1) in
+    let told = c .before .enum-told4 .given .1 in
+    sheet-refused (readSheet s) (c .no-sheet4 .result) (c .no-sheet4 .ensures) told
+    (no-starts s f g h (with-refused (startsIn (c .before .before .before .starts-at .result .starts)) (c .before .before .before .starts-at .ensures .reading) told))
+
+no-sheet-requires-5 : tie.Need-no-sheet-requires-5
+no-sheet-requires-5 c κs = search needs
+
+returns-5 : tie.Need-returns-5
+returns-5 c =
+    let s = c .before .before .before .before .before .before .before .before .before .before .before .before .before .before .before .before .before .before .before .before .before .before .args .s .now in
+    let f = answer-got (c .before .before .before .before .before .before .before .before .before .before .before .before .before .before .before .before .before .before .before .before .facts-at .ensures) (c .before .before .before .before .before .before .before .before .before .before .before .before .before .before .before .before .before .before .f .given .1) in
+    let g = with-got (rulesIn (c .before .before .before .before .before .before .before .before .before .before .before .before .before .before .before .before .rules-at .result .rules)) (c .before .before .before .before .before .before .before .before .before .before .before .before .before .before .before .before .rules-at .ensures) (c .before .before .before .before .before .before .before .before .before .before .before .before .before .before .g .given .1) in
+    let h = with-got (nodesIn (c .before .before .before .before .before .before .before .before .before .before .nodes-at .result .nodes)) (c .before .before .before .before .before .before .before .before .before .before .nodes-at .ensures .reading) (c .before .before .before .before .before .before .before .before .h .given .1) in
+    let k = with-got (startsIn (c .before .before .before .before .before .starts-at .result .starts)) (c .before .before .before .before .before .starts-at .ensures .reading) (c .before .before .before .k .given .1) in
+    sheet-refused (readSheet s) (c .no-sheet5 .result) (c .no-sheet5 .ensures) refl (more-bytes s f g h k (c .before .if1 .taken))
+
+returns-6 : tie.Need-returns-6
+returns-6 c =
+    let s = c .before .before .before .before .before .before .before .before .before .before .before .before .before .before .before .before .before .before .before .before .before .before .before .before .args .s .now in
+    let f = answer-got (c .before .before .before .before .before .before .before .before .before .before .before .before .before .before .before .before .before .before .before .before .before .before .facts-at .ensures) (c .before .before .before .before .before .before .before .before .before .before .before .before .before .before .before .before .before .before .before .before .f .given .1) in
+    let g = with-got (rulesIn (c .before .before .before .before .before .before .before .before .before .before .before .before .before .before .before .before .before .before .rules-at .result .rules)) (c .before .before .before .before .before .before .before .before .before .before .before .before .before .before .before .before .before .before .rules-at .ensures) (c .before .before .before .before .before .before .before .before .before .before .before .before .before .before .before .before .g .given .1) in
+    let h = with-got (nodesIn (c .before .before .before .before .before .before .before .before .before .before .before .before .nodes-at .result .nodes)) (c .before .before .before .before .before .before .before .before .before .before .before .before .nodes-at .ensures .reading) (c .before .before .before .before .before .before .before .before .before .before .h .given .1) in
+    let k = with-got (startsIn (c .before .before .before .before .before .before .before .starts-at .result .starts)) (c .before .before .before .before .before .before .before .starts-at .ensures .reading) (c .before .before .before .before .before .k .given .1) in
+    let m = c .before .before .before .before .before .before .before .before .before .before .before .before .nodes-at .ensures .held _ _ (c .before .before .before .before .before .before .before .before .before .before .h .given .1) in
+    let t = c .before .before .before .before .before .before .before .starts-at .ensures .held _ _ (c .before .before .before .before .before .k .given .1) in
+    record {
+      reading = sym (all-read s f g h k (c .before .before .before .if1 .left));
+      held = λ n end e. record { starts = same-value refl e; opened = m .table; threads = t .threads };
+      empty = λ number place e. refused-never e refl;
+    }
+
+pub read-sheet-spec : {M : Type 1} → statement M
+read-sheet-spec =
+    tie.close
+    (tie.spec
+    facts-at-requires
+    enum-known-f
+    enum-told
+    no-sheet-requires
+    returns
+    rules-at-requires
+    enum-known-g
+    enum-told-2
+    no-sheet-requires-2
+    returns-2
+    nodes-at-requires
+    enum-known-h
+    enum-told-3
+    no-sheet-requires-3
+    returns-3
+    starts-at-requires
+    enum-known-k
+    enum-told-4
+    no-sheet-requires-4
+    returns-4
+    no-sheet-requires-5
+    returns-5
+    returns-6)

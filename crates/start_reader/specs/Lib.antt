@@ -1,0 +1,4 @@
+pub mod Opening
+pub mod Threads
+pub mod Starting
+pub mod Starts
