@@ -3,7 +3,7 @@
 use mathlib.Core.Bool.{true, false, cond, _||_}
 use mathlib.Core.List.{List, [], _∷_, _++_}
 use Prim.Native.Nat.{ℕ}
-use lib.ListN.{length, getD, drop, replicate}
+use lib.ListN.{getD, drop, replicate}
 use lib.Dec.{eqb, ltb}
 use Rattle.sheets.specs.Sheet.{Configuration, Sheet}
 use Rattle.sheets.specs.Reading.{Reading, got, refused, readChoice}

@@ -2,10 +2,9 @@
 use mathlib.Core.Path.{_≡_, refl, sym, ap, _∙_, subst}
 use mathlib.Core.Logic.{_↔_}
 use mathlib.Core.Bool.{Bool, true, false, cond}
-use mathlib.Core.List.{List, [], _∷_, List·Memᴰ·head}
+use mathlib.Core.List.{List, [], List·Memᴰ·head}
 use Prim.Native.Nat.{ℕ, _≤_, _<_}
 use native.Mathlib.Omega.{arith}
-use lib.ListN.{length}
 use lib.Dec.{ltb}
 use borrow.Author.Tests.{ltb-true, ltb-false, lt-ltb, le-ltb}
 use Rattle.lists.specs.Tests.{true-false, Tested, tested, passes, fails}
@@ -15,23 +14,14 @@ use Rattle.sheets.specs.Reading.{Reading, got, refused, readChoice}
 use Rattle.sheets.specs.ReadingLaws.{choice-reads, read-well-formed}
 use Rattle.comparison.specs.Limits.{Limits, workLength, reportRoom}
 use Rattle.comparison.specs.Set.{explored, fits}
-use Rattle.comparison.specs.Report.{Report, reportOn, reportLength}
+use Rattle.comparison.specs.Report.{Report, reportLength}
 use Rattle.comparison.specs.Call.{Outcome, reported, refusal, start, inRoom, compareStarts, compareSheet, afterReading, compareWith}
 use Rattle.comparison.specs.CountLaws.{getD-member}
-use Rattle.comparison.specs.SetLaws.{PassesLimit, fits-exactly, fits-not-over, explored-closed, explored-seeds}
+use Rattle.comparison.specs.SetLaws.{fits-exactly, fits-not-over, explored-closed, explored-seeds}
 use Rattle.comparison.specs.ResultLaws.{result-is, rounds-of}
 use Rattle.comparison.specs.ReportLaws.{report-room-within}
-use Rattle.comparison.specs.Promise.{Faithful}
+use Rattle.comparison.specs.Promise.{PassesLimit, reportFor, startsOf, Refuses, by-sheet, short-work, large-set, short-answer, Reports, Faithful}
 use Rattle.comparison.specs.Theorem.{member-some, report-faithful}
-
--- the report on two starts of a sheet, with the set that grows from them
-abbrev pub reportFor : Limits → Sheet → ℕ → ℕ → Report
-reportFor l sheet left right =
-    reportOn sheet (explored sheet l (start sheet left ∷ start sheet right ∷ [])) (start sheet left) (start sheet right)
-
--- the seeds of a comparison: both starts
-abbrev pub startsOf : Sheet → ℕ → ℕ → List Configuration
-startsOf sheet left right = start sheet left ∷ start sheet right ∷ []
 
 -- the room named by the limits suffices for a report on two starts
 starts-room : (sheet : Sheet) → WellFormed sheet → (l : Limits) (left right : ℕ)
@@ -43,30 +33,6 @@ starts-room sheet wf l left right fit =
     let some = member-some set (explored-seeds sheet l (startsOf sheet left right) (start sheet left) (List·Memᴰ·head refl)) in
     report-room-within sheet l set (start sheet left) (start sheet right) within
     (omega (arith, result-is sheet set wf closed some .few, rounds-of sheet set wf closed some .some))
-
--- When the call refuses, and how.
-pub data Refuses (l : Limits) (bytes : List ℕ) (left right work answer : ℕ) : ℕ → ℕ → Type 0 where
-  -- by the sheet or the choice, handed up unaltered
-  by-sheet : {number place : ℕ} → readChoice bytes left right ≡ refused number place → Refuses l bytes left right work answer number place
-  -- 23: the work slice is too short
-  short-work : (sheet : Sheet) (end : ℕ) → readChoice bytes left right ≡ got sheet end → work < workLength → Refuses l bytes left right work answer 23 0
-  -- 21: the set itself passes a limit
-  large-set : (sheet : Sheet) (end : ℕ) → readChoice bytes left right ≡ got sheet end → workLength ≤ work
-      → PassesLimit sheet l (startsOf sheet left right) → Refuses l bytes left right work answer 21 0
-  -- 22: the answer slice is shorter than the report, at the length needed
-  short-answer : (sheet : Sheet) (end : ℕ) → readChoice bytes left right ≡ got sheet end → workLength ≤ work
-      → (PassesLimit sheet l (startsOf sheet left right) → ⊥) → answer < reportLength (reportFor l sheet left right)
-      → Refuses l bytes left right work answer 22 (reportLength (reportFor l sheet left right))
-
--- When the call reports, and what.
-pub record Reports (l : Limits) (bytes : List ℕ) (left right work answer : ℕ) (r : Report) : Type 0 where
-  pub sheet : Sheet
-  pub end : ℕ
-  pub read : readChoice bytes left right ≡ got sheet end
-  pub work-room : workLength ≤ work
-  pub no-limit : PassesLimit sheet l (startsOf sheet left right) → ⊥
-  pub answer-room : reportLength r ≤ answer
-  pub report : r ≡ reportFor l sheet left right
 
 -- what a call gives
 pub data Gives (l : Limits) (bytes : List ℕ) (left right work answer : ℕ) : Outcome → Type 0 where

@@ -6,10 +6,11 @@ pub mod Trail
 pub mod Report
 pub mod Call
 pub mod Print
-pub mod SheetMoves
+pub mod SheetTransitions
 pub mod Promise
 pub mod KnownSheets
 pub mod KnownCases
+pub mod SheetMoves
 pub mod ClassLaws
 pub mod CountLaws
 pub mod RoundLaws

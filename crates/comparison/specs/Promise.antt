@@ -1,18 +1,25 @@
--- The promise, as statements: what a report says, in terms of the set itself, of the watcher and of saturated barbed
--- bisimulations over all configurations of the sheet. `Theorem` proves it.
+-- The promise, as statements: when the call refuses and when it reports, and what a report says, in terms of the set itself, of
+-- the watcher and of saturated barbed bisimulations over all configurations of the sheet. `SetLaws`, `Theorem` and
+-- `CallTheorem` prove it.
 use mathlib.Core.Path.{_≡_}
 use mathlib.Core.Logic.{_↔_}
 use mathlib.Core.Bool.{true}
 use mathlib.Core.List.{List, [], _∷_, List·Memᴰ}
-use Prim.Native.Nat.{ℕ, suc, _<_}
+use Prim.Native.Nat.{ℕ, suc, _≤_, _<_}
 use lib.ListN.{length, getD}
 use Rattle.lists.specs.Ascending.{Ascends}
+use Rattle.lists.specs.Counting.{MoreThan}
 use Rattle.sheets.specs.Sheet.{Configuration, Sheet}
-use Rattle.moves.specs.Orders.{configurationOrder}
+use Rattle.sheets.specs.Reading.{got, refused, readChoice}
+use Rattle.moves.specs.Orders.{Move, configurationOrder}
+use Rattle.moves.specs.Moves.{moves}
+use Rattle.comparison.specs.Limits.{Limits, workLength}
+use Rattle.comparison.specs.Set.{explored}
 use Rattle.comparison.specs.Classes.{share}
-use Rattle.comparison.specs.Report.{SAME, DIFF, Report}
+use Rattle.comparison.specs.Report.{SAME, DIFF, Report, reportOn, reportLength}
+use Rattle.comparison.specs.Call.{start}
 use Rattle.refinement.specs.Refinement.{Member, Round, Level, TellsApart, Bisimilar, FirstApart}
-use Rattle.comparison.specs.SheetMoves.{transitions}
+use Rattle.comparison.specs.SheetTransitions.{transitions}
 
 -- n is the first round in which no two members of the set are split in the next
 pub record ResultRound (sheet : Sheet) (seeds : List Configuration) (n : ℕ) : Type 0 where
@@ -41,3 +48,52 @@ pub record Faithful (sheet : Sheet) (p q : Configuration) (r : Report) : Type 1 
   -- the places of both starts
   pub left-place : (r .leftPlace < length (r .members)) × (getD (r .members) (r .leftPlace) p ≡ p)
   pub right-place : (r .rightPlace < length (r .members)) × (getD (r .members) (r .rightPlace) q ≡ q)
+
+-- ---- the limits
+-- A move of a member of the set.
+pub record MemberMove : Type 0 where
+  pub member : Configuration
+  pub move : Move
+
+-- The conditions of refusal 21, said of the set itself, which may be infinite.
+pub data PassesLimit (sheet : Sheet) (l : Limits) (seeds : List Configuration) : Type 0 where
+  -- more than so many members
+  many-members : MoreThan (l .members) (Member (transitions sheet) seeds) → PassesLimit sheet l seeds
+  -- a member of more than so many threads
+  many-threads : (p : Configuration) → Member (transitions sheet) seeds p → l .threads < length (p .threads) → PassesLimit sheet l seeds
+  -- the members have more than so many moves together
+  many-moves : MoreThan (l .moves) (λ (x : MemberMove). Member (transitions sheet) seeds (x .member) × List·Memᴰ (x .move) (moves sheet (x .member))) → PassesLimit sheet l seeds
+
+-- ---- the call
+-- the report on two starts of a sheet, with the set that grows from them
+abbrev pub reportFor : Limits → Sheet → ℕ → ℕ → Report
+reportFor l sheet left right =
+    reportOn sheet (explored sheet l (start sheet left ∷ start sheet right ∷ [])) (start sheet left) (start sheet right)
+
+-- the seeds of a comparison: both starts
+abbrev pub startsOf : Sheet → ℕ → ℕ → List Configuration
+startsOf sheet left right = start sheet left ∷ start sheet right ∷ []
+
+-- When the call refuses, and how.
+pub data Refuses (l : Limits) (bytes : List ℕ) (left right work answer : ℕ) : ℕ → ℕ → Type 0 where
+  -- by the sheet or the choice, handed up unaltered
+  by-sheet : {number place : ℕ} → readChoice bytes left right ≡ refused number place → Refuses l bytes left right work answer number place
+  -- 23: the work slice is too short
+  short-work : (sheet : Sheet) (end : ℕ) → readChoice bytes left right ≡ got sheet end → work < workLength → Refuses l bytes left right work answer 23 0
+  -- 21: the set itself passes a limit
+  large-set : (sheet : Sheet) (end : ℕ) → readChoice bytes left right ≡ got sheet end → workLength ≤ work
+      → PassesLimit sheet l (startsOf sheet left right) → Refuses l bytes left right work answer 21 0
+  -- 22: the answer slice is shorter than the report, at the length needed
+  short-answer : (sheet : Sheet) (end : ℕ) → readChoice bytes left right ≡ got sheet end → workLength ≤ work
+      → (PassesLimit sheet l (startsOf sheet left right) → ⊥) → answer < reportLength (reportFor l sheet left right)
+      → Refuses l bytes left right work answer 22 (reportLength (reportFor l sheet left right))
+
+-- When the call reports, and what.
+pub record Reports (l : Limits) (bytes : List ℕ) (left right work answer : ℕ) (r : Report) : Type 0 where
+  pub sheet : Sheet
+  pub end : ℕ
+  pub read : readChoice bytes left right ≡ got sheet end
+  pub work-room : workLength ≤ work
+  pub no-limit : PassesLimit sheet l (startsOf sheet left right) → ⊥
+  pub answer-room : reportLength r ≤ answer
+  pub report : r ≡ reportFor l sheet left right

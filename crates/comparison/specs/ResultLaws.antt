@@ -15,7 +15,7 @@ use Rattle.sheets.specs.WellFormed.{WellFormed}
 use Rattle.comparison.specs.Classes.{numbered}
 use Rattle.comparison.specs.Rounds.{storesEqual, together, refined, classes, roundsFrom, rounds, resultOf}
 use Rattle.refinement.specs.Refinement.{Round}
-use Rattle.comparison.specs.SheetMoves.{transitions}
+use Rattle.comparison.specs.SheetTransitions.{transitions}
 use Rattle.comparison.specs.ClassLaws.{Equivalence, numbered-same}
 use Rattle.comparison.specs.RoundLaws.{ClosedList, sharing, stores-equivalence, together-yes, together-test, together-equivalence}
 use Rattle.comparison.specs.CountLaws.{classCount, classCount-some, classCount-few, same-or-more}

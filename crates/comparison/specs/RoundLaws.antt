@@ -19,7 +19,8 @@ use Rattle.comparison.specs.Classes.{share}
 use Rattle.comparison.specs.Rounds.{storesEqual, redundant, answers, answered, together, refined, classes}
 use Rattle.refinement.specs.Refinement.{Redundant, Answered, Round}
 use Rattle.refinement.specs.Rounds.{round-refl, round-sym, round-trans}
-use Rattle.comparison.specs.SheetMoves.{transitions, lawful}
+use Rattle.comparison.specs.SheetTransitions.{transitions}
+use Rattle.comparison.specs.SheetMoves.{lawful}
 use Rattle.comparison.specs.ClassLaws.{Equivalence, share-test, test-share}
 
 -- the list has what its members bring into the set

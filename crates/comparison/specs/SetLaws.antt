@@ -12,7 +12,7 @@ use borrow.Author.Tests.{eqb-true, eqb-false, ltb-true, lt-ltb, leb-true, leb-fa
 use Rattle.lists.specs.Tests.{true-false, and-left, and-right, and-intro, or-left, or-right, not-back, not-passes, Tested, tested, passes, fails}
 use Rattle.lists.specs.Members.{select, any, concatMap, mem-select, select-mem, any-yes, any-mem, mem-map, map-mem, mem-concatMap, concatMap-mem}
 use Rattle.lists.specs.Ascending.{Ascends, arrange, arrange-ascends, arrange-keeps, arrange-only}
-use Rattle.lists.specs.Counting.{Distinct, no-elements, one-more, MoreThan, distinct-length, distinct-append, distinct-map, ascends-distinct, ascends-filled}
+use Rattle.lists.specs.Counting.{Distinct, no-elements, one-more, distinct-length, distinct-append, distinct-map, ascends-distinct, ascends-filled}
 use Rattle.stores.specs.Stores.{strictlyBelow}
 use Rattle.stores.specs.StoreLaws.{below-within, within-below}
 use Rattle.sheets.specs.Sheet.{Configuration, Sheet}
@@ -22,22 +22,9 @@ use Rattle.comparison.specs.Limits.{Limits}
 use Rattle.comparison.specs.Set.{addedBelow, reached, grown, over, exploredFrom, explored, moveCount, fits}
 use Rattle.refinement.specs.Refinement.{Member, seed, target, added}
 use Rattle.refinement.specs.Bisimilarity.{member-least}
-use Rattle.comparison.specs.SheetMoves.{transitions}
+use Rattle.comparison.specs.SheetTransitions.{transitions}
+use Rattle.comparison.specs.Promise.{MemberMove, PassesLimit, many-members, many-threads, many-moves}
 use Rattle.comparison.specs.RoundLaws.{ClosedList}
-
--- A move of a member of the set.
-pub record MemberMove : Type 0 where
-  pub member : Configuration
-  pub move : Move
-
--- The conditions of refusal 21, said of the set itself, which may be infinite.
-pub data PassesLimit (sheet : Sheet) (l : Limits) (seeds : List Configuration) : Type 0 where
-  -- more than so many members
-  many-members : MoreThan (l .members) (Member (transitions sheet) seeds) → PassesLimit sheet l seeds
-  -- a member of more than so many threads
-  many-threads : (p : Configuration) → Member (transitions sheet) seeds p → l .threads < length (p .threads) → PassesLimit sheet l seeds
-  -- the members have more than so many moves together
-  many-moves : MoreThan (l .moves) (λ (x : MemberMove). Member (transitions sheet) seeds (x .member) × List·Memᴰ (x .move) (moves sheet (x .member))) → PassesLimit sheet l seeds
 
 -- the moves of a configuration ascend, so none stands twice
 pub moves-ascend : (sheet : Sheet) (p : Configuration) → Ascends moveOrder (moves sheet p)

@@ -1,5 +1,4 @@
--- The moves of a sheet as labelled transitions: what levels, watchers and bisimulations of document 01 range over. They obey
--- the laws that the theorems ask for.
+-- The moves of a well-formed sheet obey the laws that the theorems ask for.
 use mathlib.Core.Path.{_≡_, refl, sym, ap, _∙_, subst}
 use mathlib.Core.Logic.{⊎-elim}
 use mathlib.Core.List.{List, [], _∷_, _++_, map, List·Memᴰ, List·Memᴰ·head, List·Memᴰ·tail, List·Memᴰ·not-nil, List·Memᴰ·cases-cons, List·Memᴰ·append-cases, List·Memᴰ·eq-of-singleton}
@@ -16,32 +15,17 @@ use Rattle.lists.specs.Members.{mem-map}
 use Rattle.lists.specs.Tests.{test-dec}
 use Rattle.lists.specs.Ascending.{sortUp-only, sortUp-notFalling, arrange-only}
 use Rattle.stores.specs.Sets.{Within, within-refl, within-trans, within-antisym, within-le}
-use Rattle.stores.specs.Stores.{Constraint, conclusions, includes, join, leastStore}
+use Rattle.stores.specs.Stores.{Constraint, conclusions, includes, join}
 use Rattle.stores.specs.StoreLaws.{conclusions-lt, closure-lt, join-closed, join-left, join-swap, within-join, join-within, least-within, includes-within, within-includes}
 use Rattle.sheets.specs.Sheet.{Node, stop, tell, ask, both, either, Configuration, Sheet, nodeOf, opened}
 use Rattle.sheets.specs.WellFormed.{Process, OfSheet, NodeFits, WellFormed}
 use Rattle.sheets.specs.OpeningLaws.{opened-opens}
 use Rattle.moves.specs.Orders.{Move, moveOrder}
-use Rattle.moves.specs.Moves.{Step, labels, beside, stepsOf, stepsWithin, steps, moveOf, movesFrom, moves, Moves, add}
+use Rattle.moves.specs.Moves.{Step, labels, beside, stepsOf, stepsWithin, steps, moveOf, movesFrom, moves, Moves}
 use Rattle.moves.specs.LabelLaws.{label-constraint, least-constraint}
 use Rattle.moves.specs.MoveLaws.{carry-move, move-labelled, move-has-label, move-sound, reduces-more, move-complete, add-add}
-use Rattle.refinement.specs.Refinement.{Transitions}
 use Rattle.refinement.specs.Laws.{Lawful}
-
--- A configuration of the sheet is any store with any process; a watcher adds constraints of the sheet; equal barbs are equal
--- stores; a reduction is a move with the least store as its label.
-abbrev pub transitions : Sheet → Transitions
-transitions sheet = record {
-  Label = ℕ;
-  Constraint = Constraint (sheet .facts) (sheet .rules);
-  Below = Within;
-  least = leastStore (sheet .rules);
-  State = Configuration;
-  Of = OfSheet sheet;
-  add = add sheet;
-  SameBarbs = λ p q. p .store ≡ q .store;
-  Move = Moves sheet;
-}
+use Rattle.comparison.specs.SheetTransitions.{transitions}
 
 module _ (sheet : Sheet) (wf : WellFormed sheet) where
   pub conclusions-fit : conclusions (sheet .rules) < 2 ^ sheet .facts

@@ -21,7 +21,8 @@ use Rattle.refinement.specs.Refinement.{Transitions, Member, Round, Level, Tell
 use Rattle.refinement.specs.Rounds.{round-level, first-apart, always-together}
 use Rattle.refinement.specs.Levels.{bisimulation-level}
 use Rattle.refinement.specs.Bisimilarity.{Stable, stable-from, stable-bisimilar}
-use Rattle.comparison.specs.SheetMoves.{transitions, lawful}
+use Rattle.comparison.specs.SheetTransitions.{transitions}
+use Rattle.comparison.specs.SheetMoves.{lawful}
 use Rattle.comparison.specs.ClassLaws.{placeOf-lt, placeOf-at}
 use Rattle.comparison.specs.RoundLaws.{ClosedList, share-round}
 use Rattle.comparison.specs.SetLaws.{explored-seeds, explored-member, explored-ascends, explored-closed, explored-complete, fits-not-over}
