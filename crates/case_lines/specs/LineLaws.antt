@@ -15,7 +15,8 @@ use Rattle.lists.specs.Tests.{and-left, and-right}
 use Rattle.lists.specs.Members.{all}
 use Rattle.lists.specs.Tables.{tabulate, tabulate-next, tabulate-length}
 use Rattle.lines.specs.Decimal.{valueFrom, value}
-use Rattle.case_lines.specs.Lines.{before, endFrom, afterFrom, between, inClass, byteOf, mostDigits, space, fieldAt, numberOf, wrongName, bytesOf, undecodable, Decoded, passedOver, caseOf, lineOf}
+use Rattle.lines.specs.Lines.{space}
+use Rattle.case_lines.specs.Lines.{before, endFrom, afterFrom, between, inClass, byteOf, mostDigits, fieldAt, numberOf, wrongName, bytesOf, undecodable, Decoded, passedOver, caseOf, lineOf}
 use Rattle.case_lines.specs.declared.Parsed.{Parsed}
 use Rattle.case_lines.specs.declared.Case.{Case}
 use Rattle.case_lines.specs.declared.Line.{Line}

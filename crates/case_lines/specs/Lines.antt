@@ -8,6 +8,7 @@ use lib.Dec.{eqb, leb, ltb}
 use Rattle.lists.specs.Members.{all}
 use Rattle.lists.specs.Tables.{tabulate}
 use Rattle.lines.specs.Decimal.{value}
+use Rattle.lines.specs.Lines.{space}
 use Rattle.case_lines.specs.declared.Class.{Class}
 use Rattle.case_lines.specs.declared.Class.the-variants.{Digit, Hex, Name}
 use Rattle.case_lines.specs.declared.Parsed.{Parsed}
@@ -28,9 +29,6 @@ endFrom stop s at = at + before stop (drop at s)
 -- the place after it, or the end
 abbrev pub afterFrom : ℕ → List ℕ → ℕ → ℕ
 afterFrom stop s at = min (endFrom stop s at + 1) (length s)
-
-abbrev pub space : ℕ
-space = 32
 
 -- the field that begins at a place
 abbrev pub fieldAt : List ℕ → ℕ → List ℕ

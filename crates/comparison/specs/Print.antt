@@ -1,13 +1,13 @@
 -- Document 01, "Known sheets", the program: what is printed of an outcome. Fields are parted by one space, and every line ends
 -- in a line feed.
 use mathlib.Core.List.{List, [], _∷_, _++_}
-use Prim.Native.Nat.{ℕ, suc}
+use Prim.Native.Nat.{ℕ}
 use lib.ListN.{length}
 use Rattle.lists.specs.Members.{concatMap}
 use Rattle.lines.specs.Decimal.{decimal}
 use Rattle.lines.specs.Lines.{space, lineFeed, field, line, refusedWord}
 use Rattle.sheets.specs.Sheet.{Configuration}
-use Rattle.comparison.specs.Classes.{placeOf}
+use Rattle.comparison.specs.Classes.{placeOf, classOf}
 use Rattle.comparison.specs.Trail.{Side, left, right, Reply, none, move, TrailStep}
 use Rattle.comparison.specs.Report.{Verdict, SAME, DIFF}
 use Rattle.comparison.specs.Call.{Outcome, reported, refusal}
@@ -44,10 +44,8 @@ threadsText (t ∷ ts) = decimal t ++ moreThreads ts
 abbrev pub memberLine : ℕ → Configuration → ℕ → List ℕ
 memberLine position p class = decimal position ++ field (p .store) ++ field class ++ (space ∷ threadsText (p .threads)) ++ (lineFeed ∷ [])
 
-abbrev pub memberLines : ℕ → List Configuration → List ℕ → List ℕ
-memberLines position [] classes = []
-memberLines position (p ∷ ps) [] = memberLine position p 0 ++ memberLines (suc position) ps []
-memberLines position (p ∷ ps) (c ∷ cs) = memberLine position p c ++ memberLines (suc position) ps cs
+abbrev pub memberLines : List Configuration → List ℕ → List ℕ
+memberLines set classes = concatMap (λ p. memberLine (placeOf set p) p (classOf set classes p)) set
 
 -- L or R
 abbrev pub sideLetter : Side → ℕ
@@ -69,7 +67,7 @@ abbrev pub printed : Outcome → List ℕ
 printed (reported r) =
     line (verdictWord (r .verdict)) (r .round ∷ [])
     ++ line configurationsWord (length (r .members) ∷ [])
-    ++ memberLines 0 (r .members) (r .classes)
+    ++ memberLines (r .members) (r .classes)
     ++ line trailWord (length (r .steps) ∷ [])
     ++ concatMap (stepLine (r .members)) (r .steps)
 printed (refusal number place) = line refusedWord (number ∷ place ∷ [])

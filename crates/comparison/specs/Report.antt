@@ -7,7 +7,7 @@ use lib.Dec.{eqb}
 use Rattle.lists.specs.Members.{concatMap}
 use Rattle.sheets.specs.Sheet.{Configuration, Sheet}
 use Rattle.comparison.specs.Limits.{noReply}
-use Rattle.comparison.specs.Classes.{placeOf}
+use Rattle.comparison.specs.Classes.{placeOf, classOf}
 use Rattle.comparison.specs.Rounds.{rounds, resultOf, apartIn}
 use Rattle.comparison.specs.Trail.{Side, left, right, Reply, none, move, TrailStep, trail}
 
@@ -23,11 +23,9 @@ wordBytes n = n % 256 ∷ n / 256 % 256 ∷ []
 abbrev pub memberBytes : Configuration → ℕ → List ℕ
 memberBytes p class = wordBytes (p .store) ++ (length (p .threads) ∷ p .threads) ++ wordBytes class
 
--- the members with their classes
+-- the members of a set with their classes
 abbrev pub membersBytes : List Configuration → List ℕ → List ℕ
-membersBytes [] classes = []
-membersBytes (p ∷ ps) [] = memberBytes p 0 ++ membersBytes ps []
-membersBytes (p ∷ ps) (c ∷ cs) = memberBytes p c ++ membersBytes ps cs
+membersBytes set classes = concatMap (λ p. memberBytes p (classOf set classes p)) set
 
 abbrev pub sideByte : Side → ℕ
 sideByte left = 0

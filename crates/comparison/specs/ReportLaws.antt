@@ -13,6 +13,7 @@ use Rattle.lists.specs.Members.{any, any-no, concatMap}
 use Rattle.sheets.specs.Sheet.{Configuration, Sheet}
 use Rattle.comparison.specs.Limits.{Limits, wordLength, memberLength, stepLength, reportRoom}
 use Rattle.comparison.specs.Set.{over}
+use Rattle.comparison.specs.Classes.{classOf}
 use Rattle.comparison.specs.Rounds.{rounds}
 use Rattle.comparison.specs.Trail.{TrailStep}
 use Rattle.comparison.specs.Report.{wordBytes, memberBytes, membersBytes, stepBytes, Report, reportOn, reportBytes}
@@ -26,10 +27,14 @@ membersLength (p ∷ ps) = memberLength (length (p .threads)) + membersLength ps
 pub member-length : (p : Configuration) (class : ℕ) → length (memberBytes p class) ≡ memberLength (length (p .threads))
 member-length p class = let e : length (p .threads ++ wordBytes class) ≡ length (p .threads) + 2 = length-append (p .threads) (wordBytes class) in omega arith
 
-pub members-length : (ps : List Configuration) (classes : List ℕ) → length (membersBytes ps classes) ≡ membersLength ps
-members-length [] classes = refl
-members-length (p ∷ ps) [] = length-append (memberBytes p 0) (membersBytes ps []) ∙ rw (member-length p 0, members-length ps [])
-members-length (p ∷ ps) (c ∷ cs) = length-append (memberBytes p c) (membersBytes ps cs) ∙ rw (member-length p c, members-length ps cs)
+pub members-length : (set : List Configuration) (classes : List ℕ) → length (membersBytes set classes) ≡ membersLength set
+members-length set classes = each set
+  where
+    each : (ps : List Configuration) → length (concatMap (λ p. memberBytes p (classOf set classes p)) ps) ≡ membersLength ps
+    each [] = refl
+    each (p ∷ ps) =
+        length-append (memberBytes p (classOf set classes p)) (concatMap (λ p. memberBytes p (classOf set classes p)) ps)
+        ∙ rw (member-length p (classOf set classes p), each ps)
 
 pub steps-length : (set : List Configuration) (steps : List TrailStep) → length (concatMap (stepBytes set) steps) ≡ length steps * stepLength
 steps-length set [] = refl

@@ -12,7 +12,7 @@ use lib.Dec.{ltb}
 use borrow.Author.Tests.{ltb-true, ltb-false}
 use mathlib.Core.Bool.{Bool, true, false}
 use Rattle.lists.specs.Members.{mem-map}
-use Rattle.lists.specs.Tests.{test-dec}
+use Rattle.lists.specs.Tests.{test-dec, not-dec}
 use Rattle.lists.specs.Ascending.{sortUp-only, sortUp-notFalling, arrange-only}
 use Rattle.stores.specs.Sets.{Within, within-refl, within-trans, within-antisym, within-le}
 use Rattle.stores.specs.Stores.{Constraint, conclusions, includes, join}
@@ -142,10 +142,6 @@ module _ (sheet : Sheet) (wf : WellFormed sheet) where
         go : Dec ((m : Move) × List·Memᴰ m (moves sheet p) × Q (m .label) (m .target)) → Dec ((a : ℕ) × (t : Configuration) × Moves sheet p a t × Q a t)
         go (yes x) = yes (x .0 .label, x .0 .target, x .1, x .2)
         go (no f) = no (λ x. f (record { label = x .0; target = x .1 }, x .2, x .3))
-
-  not-dec : {A : Type 0} → Dec A → Dec (A → ⊥)
-  not-dec (yes a) = no (λ f. f a)
-  not-dec (no f) = yes f
 
   pub every-move : (p : Configuration) (Q : ℕ → Configuration → Type 0) → ((a : ℕ) (t : Configuration) → Dec (Q a t))
       → Dec ((a : ℕ) (t : Configuration) → Moves sheet p a t → Q a t)

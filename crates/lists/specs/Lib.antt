@@ -4,3 +4,4 @@ pub mod Ascending
 pub mod Tables
 pub mod Counting
 pub mod SortingLaws
+pub mod Storing

@@ -60,3 +60,18 @@ same-test false false f g = refl
 pub test-dec : {A : Type 0} (b : Bool) → (b ≡ true → A) → (A → b ≡ true) → Dec A
 test-dec true f g = yes (f refl)
 test-dec false f g = no (λ a. false≢true (g a))
+
+-- ---- decisions of statements made from others
+pub not-dec : {A : Type 0} → Dec A → Dec (A → ⊥)
+not-dec (yes a) = no (λ f. f a)
+not-dec (no f) = yes f
+
+pub both-dec : {A B : Type 0} → Dec A → Dec B → Dec (A × B)
+both-dec (yes a) (yes b) = yes (a, b)
+both-dec (yes a) (no g) = no (λ t. g (t .1))
+both-dec (no f) d = no (λ t. f (t .0))
+
+pub when-dec : {A B : Type 0} → Dec A → Dec B → Dec (A → B)
+when-dec (no f) d = yes (λ a. absurd (f a))
+when-dec (yes a) (yes b) = yes (λ x. b)
+when-dec (yes a) (no g) = no (λ f. g (f a))

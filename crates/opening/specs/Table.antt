@@ -13,7 +13,7 @@ use Rattle.sheets.specs.Sheet.{Node, tell, ask, both, either, openingOf, opened
 use Rattle.sheets.specs.OpeningLaws.{LowerNames, Lower, lower-none, lower-next, opening-same, opening-prefix, opening-next}
 use Rattle.held.specs.Held.{nodeHeld, openedIn, OpenedHeld}
 use Rattle.held.specs.declared.Opened.{Opened}
-use Rattle.opening.specs.Storing.{sets-append, part-sets, stored-part}
+use Rattle.lists.specs.Storing.{sets-append, part-sets, stored-part}
 use Rattle.opening.specs.declared.OpenedNode.{OpenedNode}
 
 -- the table with these threads for node k

@@ -3,23 +3,10 @@ use mathlib.Core.Path.{_≡_, refl, sym, ap, _∙_, subst}
 use mathlib.Core.Logic.{_↔_}
 use Prim.Native.Nat.{ℕ, zero, suc, _<_}
 use native.Mathlib.Omega.{arith}
+use Rattle.lists.specs.Tests.{not-dec, both-dec, when-dec}
 use Rattle.refinement.specs.Refinement.{Transitions, StrictlyBelow, Redundant, Answered, Round, Replies, Level, FirstApart, TellsApart}
 use Rattle.refinement.specs.Laws.{Lawful}
 use Rattle.refinement.specs.Levels.{level-barbs, level-refl, level-sym, level-trans, level-add, level-down}
-
-not-dec : {A : Type 0} → Dec A → Dec (A → ⊥)
-not-dec (yes a) = no (λ f. f a)
-not-dec (no f) = yes f
-
-both-dec : {A B : Type 0} → Dec A → Dec B → Dec (A × B)
-both-dec (yes a) (yes b) = yes (a, b)
-both-dec (yes a) (no g) = no (λ t. g (t .1))
-both-dec (no f) d = no (λ t. f (t .0))
-
-when-dec : {A B : Type 0} → Dec A → Dec B → Dec (A → B)
-when-dec (no f) d = yes (λ a. absurd (f a))
-when-dec (yes a) (yes b) = yes (λ x. b)
-when-dec (yes a) (no g) = no (λ f. g (f a))
 
 module _ (T : Transitions) (L : Lawful T) where
   open Transitions T using (Label, Constraint, Below, least, State, Of, add, SameBarbs, Move)

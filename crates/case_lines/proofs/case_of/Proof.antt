@@ -5,7 +5,8 @@ use native.Mathlib.Omega.{arith}
 use lib.ListN.{length}
 use lib.Seq.{length-take-le}
 use borrow.Author.Needs.{needs}
-use Rattle.case_lines.specs.Lines.{before, space, fieldAt, wrongName}
+use Rattle.lines.specs.Lines.{space}
+use Rattle.case_lines.specs.Lines.{before, fieldAt, wrongName}
 use Rattle.case_lines.specs.LineLaws.{end-within, case-no-name, case-no-left, case-no-right, case-holds}
 use Rattle.case_lines.specs.declared.Line.the-variants.{Holds}
 use Rattle.case_lines.proofs.case_of.Statement.{statement}
