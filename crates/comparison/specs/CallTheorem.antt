@@ -8,6 +8,7 @@ use native.Mathlib.Omega.{arith}
 use lib.Dec.{ltb}
 use borrow.Author.Tests.{ltb-true, ltb-false, lt-ltb, le-ltb}
 use Rattle.lists.specs.Tests.{true-false, Tested, tested, passes, fails}
+use Rattle.lists.specs.Places.{getD-in}
 use Rattle.sheets.specs.Sheet.{Configuration, Sheet}
 use Rattle.sheets.specs.WellFormed.{WellFormed}
 use Rattle.sheets.specs.Reading.{Reading, got, refused, readChoice}
@@ -16,7 +17,6 @@ use Rattle.comparison.specs.Limits.{Limits, workLength, reportRoom}
 use Rattle.comparison.specs.Set.{explored, fits}
 use Rattle.comparison.specs.Report.{Report, reportLength}
 use Rattle.comparison.specs.Call.{Outcome, reported, refusal, start, inRoom, compareStarts, compareSheet, afterReading, compareWith}
-use Rattle.comparison.specs.CountLaws.{getD-member}
 use Rattle.comparison.specs.SetLaws.{fits-exactly, fits-not-over, explored-closed, explored-seeds}
 use Rattle.comparison.specs.ResultLaws.{result-is, rounds-of}
 use Rattle.comparison.specs.ReportLaws.{report-room-within}
@@ -104,8 +104,8 @@ module _ (l : Limits) (bytes : List ℕ) (left right work answer : ℕ) where
         g .read,
         subst (λ (x : Report). Faithful sheet (start sheet left) (start sheet right) x) (sym (g .report))
             (report-faithful sheet wf l (start sheet left) (start sheet right)
-            (wf .starts-fit (start sheet left) (getD-member (sheet .starts) left (record { store = 0; threads = [] }) (c .left-start)))
-            (wf .starts-fit (start sheet right) (getD-member (sheet .starts) right (record { store = 0; threads = [] }) (c .right-start)))
+            (wf .starts-fit (start sheet left) (getD-in (sheet .starts) left (record { store = 0; threads = [] }) (c .left-start)))
+            (wf .starts-fit (start sheet right) (getD-in (sheet .starts) right (record { store = 0; threads = [] }) (c .right-start)))
             (fit-of sheet (g .no-limit))),
       )
 

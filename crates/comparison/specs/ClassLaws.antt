@@ -1,4 +1,5 @@
--- Numbering by an equivalence: two elements have one number exactly when the test holds of them.
+-- Numbering by a test: numbers go up by first member; where the test is an equivalence, two elements have one number exactly
+-- when it holds of them.
 use mathlib.Core.Path.{_≡_, refl, sym, ap, ap₂, _∙_, subst}
 use mathlib.Core.Logic.{_⊎_, inl, inr, ⊎-elim}
 use mathlib.Core.Bool.{Bool, true, false, cond, not}
@@ -9,9 +10,11 @@ use lib.ListN.{length, getD, length-append}
 use lib.Dec.{eqb}
 use borrow.Author.Tests.{eqb-true, eqb-false, eq-eqb}
 use Rattle.lists.specs.Tests.{true-false, and-left, and-right, and-intro, not-back, not-passes, Tested, tested, passes, fails}
+use Rattle.lists.specs.Places.{getD-image}
 use Rattle.sheets.specs.Sheet.{Configuration}
 use Rattle.moves.specs.Orders.{configurationBefore, configurationOrder}
 use Rattle.comparison.specs.Classes.{position, numberedFrom, numbered, sameConfiguration, placeOf, classOf, share}
+use Rattle.comparison.specs.Promise.{NumberedByFirst}
 
 module _ {A : Type 0} where
   -- ---- positions
@@ -170,6 +173,84 @@ module _ {A : Type 0} where
   pub numbered-same : (f g : A → A → Bool) (ps : List A) → ((a b : A) → List·Memᴰ a ps → List·Memᴰ b ps → f a b ≡ g a b) → numbered f ps ≡ numbered g ps
   numbered-same f g ps h = numberedFrom-same f g [] ps (λ a b m k. h a b (⊎-elim (λ (i : List·Memᴰ a []). absurd (List·Memᴰ·not-nil i)) (λ (i : List·Memᴰ a ps). i) m) k)
 
+-- ---- numbers by first member
+-- n numbers are in use: each further number is one of them, or the next, which then is in use too
+pub data Numbering : ℕ → List ℕ → Type 0 where
+  no-more : {n : ℕ} → Numbering n []
+  in-use : {n k : ℕ} {ks : List ℕ} → k < n → Numbering n ks → Numbering n (k ∷ ks)
+  next : {n : ℕ} {ks : List ℕ} → Numbering (suc n) ks → Numbering n (n ∷ ks)
+
+-- whatever the test
+pub numberedFrom-numbering : {A : Type 0} (test : A → A → Bool) (firsts ps : List A) → Numbering (length firsts) (numberedFrom test firsts ps)
+unfolding numberedFrom
+numberedFrom-numbering test firsts [] = no-more
+numberedFrom-numbering {A} test firsts (p ∷ ps) =
+    go (λ fs. numberedFrom-numbering test fs ps) (eqb (position (λ f. test f p) firsts) (length firsts)) refl
+  where
+    go : ((fs : List A) → Numbering (length fs) (numberedFrom test fs ps)) → (b : Bool) → eqb (position (λ f. test f p) firsts) (length firsts) ≡ b
+        → Numbering (length firsts) (position (λ f. test f p) firsts ∷ numberedFrom test (cond b (firsts ++ (p ∷ [])) firsts) ps)
+    go ih true e =
+        let s : length (firsts ++ (p ∷ [])) ≡ suc (length firsts) = omega (arith, length-append firsts (p ∷ [])) in
+        subst (λ (k : ℕ). Numbering (length firsts) (k ∷ numberedFrom test (firsts ++ (p ∷ [])) ps)) (sym (eqb-true _ _ e))
+        (next (subst (λ (n : ℕ). Numbering n (numberedFrom test (firsts ++ (p ∷ [])) ps)) s (ih (firsts ++ (p ∷ [])))))
+    go ih false e =
+        let l : position (λ f. test f p) firsts < length firsts =
+        omega (arith, position-le (λ f. test f p) firsts, eqb-false (position (λ f. test f p) firsts) (length firsts) e) in
+        in-use l (ih firsts)
+
+-- the number at place i: one of the first n, one that an earlier place has, or the least from n on that none has
+data At (n : ℕ) (ks : List ℕ) (i : ℕ) : Type 0 where
+  low : getD ks i 0 < n → At n ks i
+  again : (j : ℕ) → j < i → getD ks j 0 ≡ getD ks i 0 → At n ks i
+  fresh : n ≤ getD ks i 0 → ((j : ℕ) → j < i → getD ks j 0 ≡ getD ks i 0 → ⊥)
+      → ((c : ℕ) → n ≤ c → c < getD ks i 0 → (j : ℕ) × (j < i) × (getD ks j 0 ≡ c)) → At n ks i
+
+numbering-at : {n : ℕ} {ks : List ℕ} → Numbering n ks → (i : ℕ) → i < length ks → At n ks i
+numbering-at no-more i l = absurd (omega arith)
+numbering-at (in-use h s) zero l = low h
+numbering-at {n} (in-use {k = k} {ks = ks} h s) (suc i) l = go (numbering-at s i (omega arith))
+  where
+    go : At n ks i → At n (k ∷ ks) (suc i)
+    go (low g) = low g
+    go (again j g e) = again (suc j) (omega arith) e
+    go (fresh g none all) = fresh g (λ j. new j) (λ c a b. let x = all c a b in (suc (x .0), omega (arith, x .1), x .2))
+      where
+        new : (j : ℕ) → j < suc i → getD (k ∷ ks) j 0 ≡ getD ks i 0 → ⊥
+        new zero a e = absurd (omega (arith, e, g, h))
+        new (suc j) a e = none j (omega arith) e
+numbering-at (next s) zero l = fresh (omega arith) (λ j a e. absurd (omega arith)) (λ c a b. absurd (omega arith))
+numbering-at {n} (next {ks = ks} s) (suc i) l = go (numbering-at s i (omega arith))
+  where
+    go : At (suc n) ks i → At n (n ∷ ks) (suc i)
+    go (low g) = known (tested (eqb n (getD ks i 0)))
+      where
+        known : Tested (eqb n (getD ks i 0)) → At n (n ∷ ks) (suc i)
+        known (passes e) = again 0 (omega arith) (eqb-true n (getD ks i 0) e)
+        known (fails e) = low (omega (arith, g, eqb-false n (getD ks i 0) e))
+    go (again j g e) = again (suc j) (omega arith) e
+    go (fresh g none all) = fresh (omega (arith, g)) (λ j. new j) (λ c a b. found c a b (tested (eqb n c)))
+      where
+        new : (j : ℕ) → j < suc i → getD (n ∷ ks) j 0 ≡ getD ks i 0 → ⊥
+        new zero a e = absurd (omega (arith, e, g))
+        new (suc j) a e = none j (omega arith) e
+
+        found : (c : ℕ) → n ≤ c → c < getD ks i 0 → Tested (eqb n c) → (j : ℕ) × (j < suc i) × (getD (n ∷ ks) j 0 ≡ c)
+        found c a b (passes e) = (0, omega arith, eqb-true n c e)
+        found c a b (fails e) =
+            let x = all c (omega (arith, eqb-false n c e)) b in (suc (x .0), omega (arith, x .1), x .2)
+
+-- Whatever the test, the numbers go up from 0 by first member.
+pub numbered-by-first : {A : Type 0} (test : A → A → Bool) (ps : List A) → NumberedByFirst (numbered test ps)
+numbered-by-first test ps = record { at = λ i l. go i (numbering-at (numberedFrom-numbering test [] ps) i l) }
+  where
+    go : (i : ℕ) → At 0 (numbered test ps) i
+        → ((j : ℕ) × (j < i) × (getD (numbered test ps) j 0 ≡ getD (numbered test ps) i 0))
+        ⊎ (((j : ℕ) → j < i → getD (numbered test ps) j 0 ≡ getD (numbered test ps) i 0 → ⊥)
+        × ((c : ℕ) → c < getD (numbered test ps) i 0 → (j : ℕ) × (j < i) × (getD (numbered test ps) j 0 ≡ c)))
+    go i (low g) = absurd (omega arith)
+    go i (again j a e) = inl (j, a, e)
+    go i (fresh g none all) = inr (none, λ c b. all c (omega arith) b)
+
 -- ---- looking a member up
 pub same-is : (p q : Configuration) → sameConfiguration p q ≡ true → p ≡ q
 same-is p q h =
@@ -190,14 +271,9 @@ placeOf-lt set p m = position-found (sameConfiguration p) set m (same-refl p)
 pub placeOf-at : (set : List Configuration) (p : Configuration) → List·Memᴰ p set → getD set (placeOf set p) p ≡ p
 placeOf-at set p m = sym (same-is p (getD set (placeOf set p) p) (position-at (sameConfiguration p) set p (placeOf-lt set p m) .1))
 
-getD-of-map : {A : Type 0} (g : A → ℕ) (xs : List A) (i : ℕ) (d : A) (e : ℕ) → i < length xs → getD (map g xs) i e ≡ g (getD xs i d)
-getD-of-map g [] i d e l = absurd (omega arith)
-getD-of-map g (x ∷ xs) zero d e l = refl
-getD-of-map g (x ∷ xs) (suc i) d e l = getD-of-map g xs i d e (omega arith)
-
 -- the class of a member, where each member's number is given by g
 pub classOf-map : (set : List Configuration) (g : Configuration → ℕ) (p : Configuration) → List·Memᴰ p set → classOf set (map g set) p ≡ g p
-classOf-map set g p m = getD-of-map g set (placeOf set p) p 0 (placeOf-lt set p m) ∙ ap g (placeOf-at set p m)
+classOf-map set g p m = getD-image g set (placeOf set p) p 0 (placeOf-lt set p m) ∙ ap g (placeOf-at set p m)
 
 -- a test that is an equivalence on the elements of a list
 pub record Equivalence (set : List Configuration) (test : Configuration → Configuration → Bool) : Type 0 where

@@ -4,13 +4,14 @@ use mathlib.Core.Path.{_≡_, refl, sym, ap, ap₂, _∙_, subst}
 use mathlib.Core.Logic.{_⊎_, inl, inr, ⊎-elim}
 use mathlib.Core.Bool.{Bool, true, false, cond}
 use mathlib.Core.List.{List, [], _∷_, _++_, List·Memᴰ, List·Memᴰ·head, List·Memᴰ·tail, List·Memᴰ·not-nil, List·Memᴰ·append-cases, List·Memᴰ·eq-of-singleton, Memᴰ·append-right}
-use Prim.Native.Nat.{ℕ, zero, suc, _+_, _≤_, _<_}
+use Prim.Native.Nat.{ℕ, suc, _+_, _≤_, _<_}
 use native.Mathlib.Omega.{arith}
 use lib.ListN.{length, getD, length-append, List·getD-append}
 use lib.Seq.{getD-append-seam}
 use lib.Dec.{eqb, ltb}
 use borrow.Author.Tests.{eqb-true, eqb-false, ltb-true, ltb-false}
 use Rattle.lists.specs.Tests.{Tested, tested, passes, fails}
+use Rattle.lists.specs.Places.{getD-in}
 use Rattle.comparison.specs.Classes.{position, numberedFrom, numbered}
 use Rattle.comparison.specs.ClassLaws.{position-le, position-found, position-at, position-first}
 
@@ -56,11 +57,6 @@ module _ {A : Type 0} where
 
   pub classCount-few : (test : A → A → Bool) (ps : List A) → classCount test ps ≤ length ps
   classCount-few test ps = omega (arith, firstsAfter-few test [] ps)
-
-  pub getD-member : (xs : List A) (k : ℕ) (d : A) → k < length xs → List·Memᴰ (getD xs k d) xs
-  getD-member [] k d l = absurd (omega arith)
-  getD-member (x ∷ xs) zero d l = List·Memᴰ·head refl
-  getD-member (x ∷ xs) (suc k) d l = List·Memᴰ·tail (getD-member xs k d (omega arith))
 
   -- ---- a finer test against a coarser one, on elements of a kind on which the coarser is an equivalence
   module _ (In : A → Type 0) (fine coarse : A → A → Bool)
@@ -175,7 +171,7 @@ module _ {A : Type 0} where
 
             not-found : (k : ℕ) → k < length xs → coarse (getD xs k d) p ≡ true → ⊥
             not-found k l q =
-                let f = position-found (λ g. coarse g p) xs {a = getD xs k d} (getD-member xs k d l) q in
+                let f = position-found (λ g. coarse g p) xs {a = getD xs k d} (getD-in xs k d l) q in
                 omega (arith, f, e)
 
             cases : (s : Bool) → eqb i (length xs) ≡ s → (t : Bool) → eqb j (length xs) ≡ t → i ≡ j
@@ -185,7 +181,7 @@ module _ {A : Type 0} where
                 let q : coarse p (getD xs j d) ≡ true =
                 subst (λ (y : A). coarse p y ≡ true) (List·getD-append xs (p ∷ []) d j l)
                 (subst (λ (y : A). coarse y (getD (xs ++ (p ∷ [])) j d) ≡ true) (ap (λ (n : ℕ). getD (xs ++ (p ∷ [])) n d) (eqb-true i (length xs) s) ∙ at-end) h) in
-                absurd (not-found j l (sym-coarse p (getD xs j d) here (ix (getD xs j d) (getD-member xs j d l)) q))
+                absurd (not-found j l (sym-coarse p (getD xs j d) here (ix (getD xs j d) (getD-in xs j d l)) q))
             cases false s true t =
                 let l : i < length xs = omega (arith, li, snoc-length xs p, eqb-false i (length xs) s) in
                 absurd (not-found i l

@@ -1,11 +1,13 @@
--- Document 01, "Known sheets": the starred cases and the others that compute quickly, a row each, and one statement that
--- proves them all. A step's places are those of the set in its order, as document 01 prints them for [2] and [4].
+-- Document 01, "Known sheets": the starred cases and the others that compute quickly, and choices of the document that follow
+-- from no theorem, a row each; one statement proves them all. A step's places are those of the set in its order, as document 01
+-- prints them for [2] and [4].
 use mathlib.Core.Path.{_≡_, refl}
-use mathlib.Core.Bool.{Bool, true, false}
-use mathlib.Core.List.{List, [], _∷_, map, List·Memᴰ}
+use mathlib.Core.Bool.{Bool, true, false, not}
+use mathlib.Core.List.{List, [], _∷_, _++_, map, List·Memᴰ}
 use Prim.Native.Nat.{ℕ}
-use lib.Dec.{T}
-use Rattle.lists.specs.Members.{all, all-yes, concatMap, sameNumbers, same-equal}
+use lib.ListN.{length, take, drop, replicate}
+use lib.Dec.{T, eqb}
+use Rattle.lists.specs.Members.{select, all, all-yes, concatMap, sameNumbers, same-equal}
 use Rattle.stores.specs.Stores.{closure, passes, pass, conclusions}
 use Rattle.sheets.specs.Sheet.{Configuration, Sheet, openWithin}
 use Rattle.sheets.specs.Reading.{recordsFrom, countAt, setAt, nameBytes, nameAt, namesFrom, factsAt, premiseAt, ruleAt, rulesAt, kindAt, firstAt, secondAt, nodeAt, nodesAt, threadAt, threadsFrom, startAt, startsAt, readSheet, readChoice}
@@ -16,10 +18,10 @@ use Rattle.comparison.specs.Set.{exploredFrom, explored}
 use Rattle.comparison.specs.Rounds.{refined, classes, roundsFrom, rounds}
 use Rattle.comparison.specs.Trail.{TrailStep, trailFrom}
 use Rattle.comparison.specs.Report.{Verdict, SAME, DIFF, sideByte, replyNumber, reportOn, reportBytes}
-use Rattle.comparison.specs.Call.{Outcome, reported, refusal, compareWith, compare}
+use Rattle.comparison.specs.Call.{Outcome, reported, refusal, compareWith, compare, answerAfter, workAfter}
 use Rattle.comparison.specs.Print.{printed}
 use Rattle.lines.specs.Decimal.{decimal, decimalWithin}
-use Rattle.comparison.specs.KnownSheets.{bytesOfK, bytesOfGrowing, bytesOfReplies, bytesOfPaper, bytesOfFacts, bytesOfThreads, sheetK, sheetL}
+use Rattle.comparison.specs.KnownSheets.{bytesOfK, bytesOfGrowing, bytesOfReplies, bytesOfTies, bytesOfWide, bytesOfPaper, bytesOfFacts, bytesOfThreads, bytesOfTwoMore, sheetK, sheetL, sheetInside}
 
 -- what the definitions give, and what document 01 says, as numbers
 pub record Row : Type 0 where
@@ -60,9 +62,38 @@ compared bytes left right = compare bytes left right workLength (reportRoom limi
 abbrev pub labelsAt : Sheet → ℕ → ℕ → List ℕ
 labelsAt sheet store k = map (λ m. m .label) (moves sheet (record { store = store; threads = k ∷ [] }))
 
+-- its moves: label, store, thread count and threads of each
+abbrev pub movesAt : Sheet → ℕ → ℕ → List ℕ
+movesAt sheet store k =
+    concatMap (λ m. m .label ∷ m .target .store ∷ length (m .target .threads) ∷ m .target .threads)
+    (moves sheet (record { store = store; threads = k ∷ [] }))
+
 -- the stores that it leads to
 abbrev pub storesAt : Sheet → ℕ → ℕ → List ℕ
 storesAt sheet store k = map (λ m. m .target .store) (moves sheet (record { store = store; threads = k ∷ [] }))
+
+-- ---- what the call leaves in the slices that were lent, which have these contents before it
+abbrev pub answerLeft : List ℕ → ℕ → ℕ → List ℕ → List ℕ → List ℕ
+answerLeft bytes left right work answer = answerAfter (compare bytes left right (length work) (length answer)) answer
+
+-- the work slice: its length, how many of its first 16,384 numbers are not 0, and the later ones
+abbrev pub workLeft : List ℕ → ℕ → ℕ → List ℕ → List ℕ → List ℕ
+workLeft bytes left right work answer =
+    let after = workAfter (compare bytes left right (length work) (length answer)) work in
+    length after ∷ length (select (λ n. not (eqb n 0)) (take workLength after)) ∷ drop workLength after
+
+-- a work slice with three numbers more than needed, none of them 0
+abbrev pub usedWork : List ℕ
+usedWork = replicate workLength 5 ++ (7 ∷ 8 ∷ 9 ∷ [])
+
+-- n bytes, each of them 9
+abbrev pub nines : ℕ → List ℕ
+nines n = replicate n 9
+
+-- two starts of a sheet compared with other limits
+abbrev pub comparedWithin : ℕ → ℕ → ℕ → List ℕ → ℕ → ℕ → Outcome
+comparedWithin members threads moves bytes left right =
+    compareWith (record { members = members; threads = threads; moves = moves }) bytes left right workLength (reportRoom limits)
 
 -- ---- what is wanted, in the same numbers
 abbrev pub sameIn : ℕ → List ℕ
@@ -103,6 +134,59 @@ printedText =
     ∷ 53 ∷ 32 ∷ 51 ∷ 32 ∷ 52 ∷ 32 ∷ 49 ∷ 10
     ∷ 84 ∷ 82 ∷ 65 ∷ 73 ∷ 76 ∷ 32 ∷ 48 ∷ 10 ∷ []
 
+-- the answer for [8] and [1] of K: three members, [], [1] and [1, 1], and two steps by the left; 36 bytes
+abbrev pub eightAnswer : List ℕ
+eightAnswer =
+    3 ∷ 0
+    ∷ 0 ∷ 0 ∷ 0 ∷ 0 ∷ 0
+    ∷ 0 ∷ 0 ∷ 1 ∷ 1 ∷ 1 ∷ 0
+    ∷ 0 ∷ 0 ∷ 2 ∷ 1 ∷ 1 ∷ 2 ∷ 0
+    ∷ 2 ∷ 0
+    ∷ 0 ∷ 0 ∷ 0 ∷ 1 ∷ 0 ∷ 0 ∷ 0
+    ∷ 0 ∷ 0 ∷ 0 ∷ 0 ∷ 0 ∷ 255 ∷ 255 ∷ []
+
+-- and its text: DIFF 2, CONFIGURATIONS 3; 0 0 0 -, 1 0 1 1, 2 0 2 1+1; TRAIL 2; L 0 1 0, L 0 0 -
+abbrev pub eightText : List ℕ
+eightText =
+    68 ∷ 73 ∷ 70 ∷ 70 ∷ 32 ∷ 50 ∷ 10
+    ∷ 67 ∷ 79 ∷ 78 ∷ 70 ∷ 73 ∷ 71 ∷ 85 ∷ 82 ∷ 65 ∷ 84 ∷ 73 ∷ 79 ∷ 78 ∷ 83 ∷ 32 ∷ 51 ∷ 10
+    ∷ 48 ∷ 32 ∷ 48 ∷ 32 ∷ 48 ∷ 32 ∷ 45 ∷ 10
+    ∷ 49 ∷ 32 ∷ 48 ∷ 32 ∷ 49 ∷ 32 ∷ 49 ∷ 10
+    ∷ 50 ∷ 32 ∷ 48 ∷ 32 ∷ 50 ∷ 32 ∷ 49 ∷ 43 ∷ 49 ∷ 10
+    ∷ 84 ∷ 82 ∷ 65 ∷ 73 ∷ 76 ∷ 32 ∷ 50 ∷ 10
+    ∷ 76 ∷ 32 ∷ 48 ∷ 32 ∷ 49 ∷ 32 ∷ 48 ∷ 10
+    ∷ 76 ∷ 32 ∷ 48 ∷ 32 ∷ 48 ∷ 32 ∷ 45 ∷ 10 ∷ []
+
+-- the answer for [2] and [4] of the wide sheet: those two at store 0, [] and [1] at store 258; the right asks and is answered,
+-- the left tells and is not
+abbrev pub wideAnswer : List ℕ
+wideAnswer =
+    4 ∷ 0
+    ∷ 0 ∷ 0 ∷ 1 ∷ 2 ∷ 0 ∷ 0
+    ∷ 0 ∷ 0 ∷ 1 ∷ 4 ∷ 1 ∷ 0
+    ∷ 2 ∷ 1 ∷ 0 ∷ 2 ∷ 0
+    ∷ 2 ∷ 1 ∷ 1 ∷ 1 ∷ 3 ∷ 0
+    ∷ 2 ∷ 0
+    ∷ 1 ∷ 2 ∷ 1 ∷ 2 ∷ 0 ∷ 3 ∷ 0
+    ∷ 0 ∷ 0 ∷ 0 ∷ 2 ∷ 0 ∷ 255 ∷ 255 ∷ []
+
+-- and its text: DIFF 2, CONFIGURATIONS 4; 0 0 0 2, 1 0 1 4, 2 258 2 -, 3 258 3 1; TRAIL 2; R 258 2 3, L 0 2 -
+abbrev pub wideText : List ℕ
+wideText =
+    68 ∷ 73 ∷ 70 ∷ 70 ∷ 32 ∷ 50 ∷ 10
+    ∷ 67 ∷ 79 ∷ 78 ∷ 70 ∷ 73 ∷ 71 ∷ 85 ∷ 82 ∷ 65 ∷ 84 ∷ 73 ∷ 79 ∷ 78 ∷ 83 ∷ 32 ∷ 52 ∷ 10
+    ∷ 48 ∷ 32 ∷ 48 ∷ 32 ∷ 48 ∷ 32 ∷ 50 ∷ 10
+    ∷ 49 ∷ 32 ∷ 48 ∷ 32 ∷ 49 ∷ 32 ∷ 52 ∷ 10
+    ∷ 50 ∷ 32 ∷ 50 ∷ 53 ∷ 56 ∷ 32 ∷ 50 ∷ 32 ∷ 45 ∷ 10
+    ∷ 51 ∷ 32 ∷ 50 ∷ 53 ∷ 56 ∷ 32 ∷ 51 ∷ 32 ∷ 49 ∷ 10
+    ∷ 84 ∷ 82 ∷ 65 ∷ 73 ∷ 76 ∷ 32 ∷ 50 ∷ 10
+    ∷ 82 ∷ 32 ∷ 50 ∷ 53 ∷ 56 ∷ 32 ∷ 50 ∷ 32 ∷ 51 ∷ 10
+    ∷ 76 ∷ 32 ∷ 48 ∷ 32 ∷ 50 ∷ 32 ∷ 45 ∷ 10 ∷ []
+
+-- REFUSED 12 11
+abbrev pub refusedText : List ℕ
+refusedText = 82 ∷ 69 ∷ 70 ∷ 85 ∷ 83 ∷ 69 ∷ 68 ∷ 32 ∷ 49 ∷ 50 ∷ 32 ∷ 49 ∷ 49 ∷ 10 ∷ []
+
 -- the rows: what the definitions give, then what document 01 says
 abbrev pub table : List Row
 table =
@@ -142,6 +226,52 @@ table =
     ∷ row (brief (compared (bytesOfThreads 8) 0 1)) (sameIn 8)
     ∷ row (brief (compared (bytesOfThreads 9) 0 1)) (refusedAs 12 11)
     ∷ row (brief (compared [] 0 1)) (refusedAs 1 0)
+    -- ---- not starred: a both inside an either. Node 5: 1 moves beside 2, 2 beside 1, or 4 alone
+    ∷ row (movesAt sheetInside 0 5) (0 ∷ 1 ∷ 1 ∷ 2 ∷ 0 ∷ 2 ∷ 1 ∷ 1 ∷ 0 ∷ 4 ∷ 0 ∷ [])
+    -- inside another both. Node 7: each of the three moves beside the other two
+    ∷ row (movesAt sheetInside 0 7) (0 ∷ 1 ∷ 2 ∷ 2 ∷ 3 ∷ 0 ∷ 2 ∷ 2 ∷ 1 ∷ 3 ∷ 0 ∷ 4 ∷ 2 ∷ 1 ∷ 2 ∷ [])
+    -- ---- not starred: trails. Two replies that tie, at stores 2 and 4: the earlier one; the left moves, though the right could
+    ∷ row (brief (compared bytesOfTies 0 1)) (diffIn 1 (step 0 0 2 3 ∷ []))
+    -- two moves without an answer, to stores 2 and 4: the first one
+    ∷ row (brief (compared bytesOfTies 1 0)) (diffIn 1 (step 0 0 3 2 ∷ []))
+    -- a step by the right with steps after it; sides are kept
+    ∷ row (brief (compared bytesOfReplies 1 0)) (diffIn 3 (step 1 0 4 1 ∷ step 0 0 0 1 ∷ step 1 0 0 noReply ∷ []))
+    -- [7] and [4]: the reply with label 3 is a redundant move of [4]
+    ∷ row (brief (compared bytesOfK 3 1)) (diffIn 2 (step 0 3 6 5 ∷ step 0 0 7 4 ∷ []))
+    -- ---- not starred: a whole DIFF with steps by both sides, a label above 255 and no reply at the end; and its text
+    ∷ row (whole (compared bytesOfWide 0 1)) (1 ∷ 2 ∷ 0 ∷ 1 ∷ wideAnswer)
+    ∷ row (printed (compared bytesOfWide 0 1)) wideText
+    -- the text of a member with several threads, and of a refusal
+    ∷ row (printed (compared bytesOfK 7 4)) eightText
+    ∷ row (printed (compared (bytesOfThreads 9) 0 1)) refusedText
+    -- ---- not starred: the answer slice after a report: its bytes, and those beyond stay
+    ∷ row (answerLeft bytesOfK 7 4 usedWork (nines 39)) (eightAnswer ++ nines 3)
+    -- after 22, 21, 23 and a refused sheet it is untouched
+    ∷ row (answerLeft bytesOfK 7 4 usedWork (nines 35)) (nines 35)
+    ∷ row (answerLeft bytesOfGrowing 0 1 usedWork (nines 39)) (nines 39)
+    ∷ row (answerLeft bytesOfK 7 4 (nines 3) (nines 39)) (nines 39)
+    ∷ row (answerLeft [] 0 1 usedWork (nines 39)) (nines 39)
+    -- the work slice after a report, 22 and 21: 16,384 numbers are 0, later ones untouched
+    ∷ row (workLeft bytesOfK 7 4 usedWork (nines 39)) (16387 ∷ 0 ∷ 7 ∷ 8 ∷ 9 ∷ [])
+    ∷ row (workLeft bytesOfK 7 4 usedWork (nines 35)) (16387 ∷ 0 ∷ 7 ∷ 8 ∷ 9 ∷ [])
+    ∷ row (workLeft bytesOfGrowing 0 1 usedWork (nines 39)) (16387 ∷ 0 ∷ 7 ∷ 8 ∷ 9 ∷ [])
+    -- after 23 and a refused sheet: nothing changes
+    ∷ row (workLeft bytesOfK 7 4 (nines 16383) (nines 39)) (16383 ∷ 16383 ∷ [])
+    ∷ row (workLeft [] 0 1 usedWork (nines 39)) (16387 ∷ 16384 ∷ 7 ∷ 8 ∷ 9 ∷ [])
+    -- ---- the limits of document 01, and what stands for no reply
+    ∷ row (limits .members ∷ limits .threads ∷ limits .moves ∷ workLength ∷ noReply ∷ []) (512 ∷ 8 ∷ 4096 ∷ 16384 ∷ 65535 ∷ [])
+    -- a member of eight threads passes, one of nine is refused
+    ∷ row (brief (compared (bytesOfTwoMore 6) 0 1)) (sameIn 9)
+    ∷ row (brief (compared (bytesOfTwoMore 7) 0 1)) (refusedAs 21 0)
+    -- a work slice of 16,383 numbers is refused, one of 16,384 is not; an answer slice of 35 bytes is refused, one of 36 is not
+    ∷ row (brief (compare bytesOfK 7 4 16383 36)) (refusedAs 23 0)
+    ∷ row (brief (compare bytesOfK 7 4 16384 35)) (refusedAs 22 36)
+    ∷ row (whole (compare bytesOfK 7 4 16384 36)) (1 ∷ 2 ∷ 2 ∷ 1 ∷ eightAnswer)
+    -- [8] and [1] have three members, one of them of two threads, and two moves: each as a limit passes, one less is refused
+    ∷ row (whole (comparedWithin 3 2 2 bytesOfK 7 4)) (1 ∷ 2 ∷ 2 ∷ 1 ∷ eightAnswer)
+    ∷ row (brief (comparedWithin 2 2 2 bytesOfK 7 4)) (refusedAs 21 0)
+    ∷ row (brief (comparedWithin 3 1 2 bytesOfK 7 4)) (refusedAs 21 0)
+    ∷ row (brief (comparedWithin 3 2 1 bytesOfK 7 4)) (refusedAs 21 0)
     ∷ []
 
 pub all-right : T (all right table)

@@ -1,7 +1,7 @@
--- Document 01, "Known sheets": the bytes of the sheets, and what reading K and L gives.
+-- Document 01, "Known sheets": the bytes of the sheets, and what reading K and L gives; further small sheets.
 use mathlib.Core.Path.{_≡_, refl}
 use mathlib.Core.List.{List, [], _∷_, _++_}
-use Prim.Native.Nat.{ℕ, zero, suc}
+use Prim.Native.Nat.{ℕ, zero, suc, _/_, _%_}
 use lib.ListN.{length}
 use Rattle.lists.specs.Members.{concatMap}
 use Rattle.stores.specs.Stores.{Rule, closure, passes, pass, conclusions}
@@ -10,22 +10,26 @@ use Rattle.sheets.specs.WellFormed.{WellFormed}
 use Rattle.sheets.specs.ReadingLaws.{read-well-formed}
 use Rattle.sheets.specs.Reading.{got, recordsFrom, countAt, setAt, nameBytes, nameAt, namesFrom, factsAt, premiseAt, ruleAt, rulesAt, kindAt, firstAt, secondAt, nodeAt, nodesAt, threadAt, threadsFrom, startAt, startsAt, readSheet}
 
--- ---- records as bytes. Every number below is under 256, so that the high byte of a two-byte field is 0.
+-- ---- records as bytes
+-- two bytes, the low one first
+abbrev pub word : ℕ → List ℕ
+word n = n % 256 ∷ n / 256 ∷ []
+
 -- the name "fact", a space, one more printable byte and two spaces
 abbrev pub nameBytesOf : ℕ → List ℕ
 nameBytesOf b = 102 ∷ 97 ∷ 99 ∷ 116 ∷ 32 ∷ b ∷ 32 ∷ 32 ∷ []
 
 -- "gives": premise set, conclusion set
 abbrev pub rule : ℕ → ℕ → List ℕ
-rule premise conclusion = premise ∷ 0 ∷ conclusion ∷ 0 ∷ []
+rule premise conclusion = word premise ++ word conclusion
 
 -- kind byte and two fields
 abbrev pub node : ℕ → ℕ → ℕ → List ℕ
-node kind first second = kind ∷ first ∷ 0 ∷ second ∷ 0 ∷ []
+node kind first second = kind ∷ word first ++ word second
 
 -- store, thread count, threads
 abbrev pub start : ℕ → List ℕ → List ℕ
-start store threads = store ∷ 0 ∷ length threads ∷ threads
+start store threads = word store ++ (length threads ∷ threads)
 
 -- a section: its count, then its records
 abbrev pub section : List (List ℕ) → List ℕ
@@ -103,6 +107,12 @@ bytesOfThreads n =
     let threads = concatMap (λ r. r) (times n (0 ∷ [])) in
     section [] ++ (section [] ++ (section (node 1 0 0 ∷ []) ++ section (start 0 threads ∷ start 0 threads ∷ [])))
 
+-- no facts: tell 0, an ask that becomes two of it, and two starts with n tells and the ask, so that n + 2 threads are reached
+abbrev pub bytesOfTwoMore : ℕ → List ℕ
+bytesOfTwoMore n =
+    let threads = concatMap (λ r. r) (times n (0 ∷ [])) ++ (1 ∷ []) in
+    section [] ++ (section [] ++ (section (node 1 0 0 ∷ node 2 0 2 ∷ node 3 0 0 ∷ []) ++ section (start 0 threads ∷ start 0 threads ∷ [])))
+
 -- ---- reading K and L
 pub k-reads : readSheet bytesOfK ≡ got sheetK (length bytesOfK)
 unfolding readSheet recordsFrom countAt setAt nameBytes nameAt namesFrom factsAt premiseAt ruleAt rulesAt kindAt firstAt secondAt nodeAt nodesAt threadAt threadsFrom startAt startsAt openWithin closure passes pass conclusions
@@ -126,6 +136,30 @@ bytesOfReplies =
     ++ (section []
     ++ (section (node 0 0 0 ∷ node 1 0 0 ∷ node 3 1 1 ∷ node 2 0 0 ∷ node 2 0 1 ∷ node 2 0 2 ∷ node 4 3 4 ∷ node 4 6 5 ∷ [])
     ++ section (start 0 (7 ∷ []) ∷ start 0 (6 ∷ []) ∷ [])))
+
+-- ---- a sheet whose replies tie: node 0 tells 1, node 3 tells 2 or 4. Its starts, 0 and 1: [0] and [3].
+abbrev pub bytesOfTies : List ℕ
+bytesOfTies =
+    threeFacts
+    ++ (section [] ++ (section (node 1 1 0 ∷ node 1 2 0 ∷ node 1 4 0 ∷ node 4 1 2 ∷ []) ++ section (start 0 (0 ∷ []) ∷ start 0 (3 ∷ []) ∷ [])))
+
+-- ---- nine facts; 256 gives 2, so that an ask of 256 has label 258. (4 to 128 give all, so that constraints are few.) Node 2
+-- asks and tells, node 4 asks and may tell. Its starts, 0 and 1: [2] and [4].
+abbrev pub bytesOfWide : List ℕ
+bytesOfWide =
+    section (times 9 (nameBytesOf 48))
+    ++ (section (rule 256 2 ∷ rule 4 511 ∷ rule 8 511 ∷ rule 16 511 ∷ rule 32 511 ∷ rule 64 511 ∷ rule 128 511 ∷ [])
+    ++ (section (node 0 0 0 ∷ node 1 0 0 ∷ node 2 256 1 ∷ node 2 256 0 ∷ node 4 2 3 ∷ []) ++ section (start 0 (2 ∷ []) ∷ start 0 (4 ∷ []) ∷ [])))
+
+-- ---- a both inside an either (node 5), and inside another both in an either (node 7); its tells are 1, 2 and 4
+abbrev pub sheetInside : Sheet
+sheetInside =
+    record {
+      facts = 3;
+      rules = [];
+      nodes = stop ∷ tell 1 ∷ tell 2 ∷ tell 4 ∷ both 1 2 ∷ either 4 3 ∷ both 4 3 ∷ either 6 0 ∷ [];
+      starts = [];
+    }
 
 -- ---- the paper's running example. Facts 0 to 4: z < 7, z < 5, x < 7, x < 5, y = 1; z < 5 gives z < 7, and x < 5 gives x < 7.
 -- Nodes 0 to 11: T, P, Q, P + Q, R, S, R + S, T', Q', P + Q', R', R' + S. Its starts, 0 to 2: S, R + S, R' + S.

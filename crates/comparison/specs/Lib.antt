@@ -17,6 +17,7 @@ pub mod RoundLaws
 pub mod SetLaws
 pub mod ResultLaws
 pub mod TrailLaws
+pub mod TrailWalk
 pub mod ReportLaws
 pub mod Theorem
 pub mod CallTheorem

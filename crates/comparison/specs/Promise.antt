@@ -2,7 +2,7 @@
 -- the watcher and of saturated barbed bisimulations over all configurations of the sheet. `SetLaws`, `Theorem` and
 -- `CallTheorem` prove it.
 use mathlib.Core.Path.{_≡_}
-use mathlib.Core.Logic.{_↔_}
+use mathlib.Core.Logic.{_↔_, _⊎_}
 use mathlib.Core.Bool.{true}
 use mathlib.Core.List.{List, [], _∷_, List·Memᴰ}
 use Prim.Native.Nat.{ℕ, suc, _≤_, _<_}
@@ -12,13 +12,15 @@ use Rattle.lists.specs.Counting.{MoreThan}
 use Rattle.sheets.specs.Sheet.{Configuration, Sheet}
 use Rattle.sheets.specs.Reading.{got, refused, readChoice}
 use Rattle.moves.specs.Orders.{Move, configurationOrder}
-use Rattle.moves.specs.Moves.{moves}
+use Rattle.moves.specs.Moves.{moves, Moves}
 use Rattle.comparison.specs.Limits.{Limits, workLength}
 use Rattle.comparison.specs.Set.{explored}
 use Rattle.comparison.specs.Classes.{share}
+use Rattle.comparison.specs.Trail as trail
+use Rattle.comparison.specs.Trail.{TrailStep}
 use Rattle.comparison.specs.Report.{SAME, DIFF, Report, reportOn, reportLength}
 use Rattle.comparison.specs.Call.{start}
-use Rattle.refinement.specs.Refinement.{Member, Round, Level, TellsApart, Bisimilar, FirstApart}
+use Rattle.refinement.specs.Refinement.{Member, Redundant, Round, Level, TellsApart, Bisimilar, FirstApart}
 use Rattle.comparison.specs.SheetTransitions.{transitions}
 
 -- n is the first round in which no two members of the set are split in the next
@@ -28,6 +30,50 @@ pub record ResultRound (sheet : Sheet) (seeds : List Configuration) (n : ℕ) : 
   pub first : (m : ℕ) → m < n
       → ((x y : Configuration) → Member (transitions sheet) seeds x → Member (transitions sheet) seeds y
       → Round (transitions sheet) m x y → Round (transitions sheet) (suc m) x y) → ⊥
+
+-- Classes are numbered from 0 by first member: each member has a number that an earlier one has, or the least that none has.
+pub record NumberedByFirst (classes : List ℕ) : Type 0 where
+  pub at : (i : ℕ) → i < length classes
+      → ((j : ℕ) × (j < i) × (getD classes j 0 ≡ getD classes i 0))
+      ⊎ (((j : ℕ) → j < i → getD classes j 0 ≡ getD classes i 0 → ⊥)
+      × ((c : ℕ) → c < getD classes i 0 → (j : ℕ) × (j < i) × (getD classes j 0 ≡ c)))
+
+-- A move of p that tells it from q, the two being first separated in the round after r: it is irredundant in round r, and no
+-- move of q with its label leads into the class of round r of its target.
+pub record Telling (sheet : Sheet) (r : ℕ) (p q : Configuration) (a : ℕ) (t : Configuration) : Type 0 where
+  pub move : Moves sheet p a t
+  pub irredundant : Redundant (transitions sheet) (Round (transitions sheet) r) p a t → ⊥
+  pub unanswered : (u : Configuration) → Moves sheet q a u → Round (transitions sheet) r t u → ⊥
+
+-- A reply to a move with label a into t: a move of q with that label, and none of them leads to a target that is separated
+-- from t in a higher round; n is the round of the new pair.
+pub record Replied (sheet : Sheet) (q : Configuration) (a : ℕ) (t : Configuration) (k : Move) (n : ℕ) : Type 0 where
+  pub label : k .label ≡ a
+  pub move : List·Memᴰ k (moves sheet q)
+  pub round : FirstApart (transitions sheet) (Round (transitions sheet)) n t (k .target)
+  pub highest : (u : Configuration) (i : ℕ) → Moves sheet q a u → FirstApart (transitions sheet) (Round (transitions sheet)) i t u → i ≤ n
+
+-- A trail that a person can walk with the sheet in hand, from a left and a right configuration that are first separated in
+-- round n: each step is a move that tells the mover from the other, its reply leads to a pair of a lower round, and the trail
+-- ends at unequal stores or where there is no reply. Sides are kept; the right moves only where no move of the left tells.
+pub data Walkable (sheet : Sheet) : ℕ → Configuration → Configuration → List TrailStep → Type 0 where
+  unequal-stores : {p q : Configuration} → FirstApart (transitions sheet) (Round (transitions sheet)) 0 p q → Walkable sheet 0 p q []
+  left-alone : {r a : ℕ} {p q t : Configuration} → FirstApart (transitions sheet) (Round (transitions sheet)) (suc r) p q
+      → Telling sheet r p q a t → ((u : Configuration) → Moves sheet q a u → ⊥)
+      → Walkable sheet (suc r) p q (record { side = trail.left; label = a; target = t; reply = trail.none } ∷ [])
+  left-replied : {r n a : ℕ} {p q t : Configuration} {k : Move} {steps : List TrailStep}
+      → FirstApart (transitions sheet) (Round (transitions sheet)) (suc r) p q
+      → Telling sheet r p q a t → Replied sheet q a t k n → n ≤ r → Walkable sheet n t (k .target) steps
+      → Walkable sheet (suc r) p q (record { side = trail.left; label = a; target = t; reply = trail.move k } ∷ steps)
+  right-alone : {r a : ℕ} {p q t : Configuration} → FirstApart (transitions sheet) (Round (transitions sheet)) (suc r) p q
+      → ((b : ℕ) (u : Configuration) → Telling sheet r p q b u → ⊥)
+      → Telling sheet r q p a t → ((u : Configuration) → Moves sheet p a u → ⊥)
+      → Walkable sheet (suc r) p q (record { side = trail.right; label = a; target = t; reply = trail.none } ∷ [])
+  right-replied : {r n a : ℕ} {p q t : Configuration} {k : Move} {steps : List TrailStep}
+      → FirstApart (transitions sheet) (Round (transitions sheet)) (suc r) p q
+      → ((b : ℕ) (u : Configuration) → Telling sheet r p q b u → ⊥)
+      → Telling sheet r q p a t → Replied sheet p a t k n → n ≤ r → Walkable sheet n (k .target) t steps
+      → Walkable sheet (suc r) p q (record { side = trail.right; label = a; target = t; reply = trail.move k } ∷ steps)
 
 -- What a report on two starts p and q says. Demand 3, sentence by sentence.
 pub record Faithful (sheet : Sheet) (p q : Configuration) (r : Report) : Type 1 where
@@ -45,6 +91,11 @@ pub record Faithful (sheet : Sheet) (p q : Configuration) (r : Report) : Type 1 
   pub same : (r .verdict ≡ SAME) ↔ ((n : ℕ) → TellsApart (transitions sheet) n p q → ⊥)
   -- SAME carries the number of the result's round
   pub same-round : r .verdict ≡ SAME → ResultRound sheet (p ∷ q ∷ []) (r .round)
+  -- classes are numbered from 0 by first member
+  pub numbering : NumberedByFirst (r .classes)
+  -- the trail of a DIFF can be walked with the sheet in hand; that of a SAME is empty
+  pub trail-walks : r .verdict ≡ DIFF → Walkable sheet (r .round) p q (r .steps)
+  pub trail-none : r .verdict ≡ SAME → r .steps ≡ []
   -- the places of both starts
   pub left-place : (r .leftPlace < length (r .members)) × (getD (r .members) (r .leftPlace) p ≡ p)
   pub right-place : (r .rightPlace < length (r .members)) × (getD (r .members) (r .rightPlace) q ≡ q)

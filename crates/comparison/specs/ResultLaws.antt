@@ -16,7 +16,8 @@ use Rattle.comparison.specs.Classes.{numbered}
 use Rattle.comparison.specs.Rounds.{storesEqual, together, refined, classes, roundsFrom, rounds, resultOf}
 use Rattle.refinement.specs.Refinement.{Round}
 use Rattle.comparison.specs.SheetTransitions.{transitions}
-use Rattle.comparison.specs.ClassLaws.{Equivalence, numbered-same}
+use Rattle.comparison.specs.ClassLaws.{Equivalence, numbered-same, numbered-by-first}
+use Rattle.comparison.specs.Promise.{NumberedByFirst}
 use Rattle.comparison.specs.RoundLaws.{ClosedList, sharing, stores-equivalence, together-yes, together-test, together-equivalence}
 use Rattle.comparison.specs.CountLaws.{classCount, classCount-some, classCount-few, same-or-more}
 
@@ -30,6 +31,10 @@ module _ (sheet : Sheet) (set : List Configuration) where
   unfolding classes refined
   classes-numbered zero = refl
   classes-numbered (suc n) = refl
+
+  -- the classes of every round are numbered by first member
+  pub classes-by-first : (n : ℕ) → NumberedByFirst (classes sheet set n)
+  classes-by-first n = subst NumberedByFirst (sym (classes-numbered n)) (numbered-by-first (testOf n) set)
 
   pub classes-next : (n : ℕ) → classes sheet set (suc n) ≡ refined sheet set (classes sheet set n)
   unfolding classes

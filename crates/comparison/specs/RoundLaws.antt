@@ -29,7 +29,8 @@ pub record ClosedList (sheet : Sheet) (set : List Configuration) : Type 0 where
   pub addeds : (p : Configuration) (k m : Move) → List·Memᴰ p set → List·Memᴰ k (moves sheet p) → List·Memᴰ m (moves sheet p)
       → strictlyBelow (k .label) (m .label) ≡ true → List·Memᴰ (add sheet (m .label) (k .target)) set
 
-abbrev labelled : ℕ → Configuration → Move
+-- a move as its label and target
+abbrev pub labelled : ℕ → Configuration → Move
 labelled b t = record { label = b; target = t }
 
 module _ (sheet : Sheet) (wf : WellFormed sheet) (set : List Configuration) (closed : ClosedList sheet set) where

@@ -9,13 +9,14 @@ use native.Mathlib.Omega.{arith}
 use lib.ListN.{length, getD}
 use lib.Dec.{eqb, ltb}
 use borrow.Author.Tests.{eqb-true, eqb-false, ltb-true, ltb-false}
-use Rattle.lists.specs.Tests.{true-false, Tested, tested, passes, fails}
+use Rattle.lists.specs.Tests.{Tested, tested, passes, fails}
 use Rattle.sheets.specs.Sheet.{Configuration, Sheet}
 use Rattle.sheets.specs.WellFormed.{OfSheet, WellFormed}
 use Rattle.comparison.specs.Limits.{Limits}
 use Rattle.comparison.specs.Set.{over, explored, fits}
 use Rattle.comparison.specs.Classes.{share}
-use Rattle.comparison.specs.Rounds.{classes, together, rounds, resultOf, apartIn}
+use Rattle.comparison.specs.Rounds.{classes, rounds, resultOf, apartIn}
+use Rattle.comparison.specs.Trail.{trail}
 use Rattle.comparison.specs.Report.{Verdict, SAME, DIFF, verdictOf, roundOf, reportOn}
 use Rattle.refinement.specs.Refinement.{Transitions, Member, Round, Level, TellsApart, Bisimilar, FirstApart}
 use Rattle.refinement.specs.Rounds.{round-level, first-apart, always-together}
@@ -26,9 +27,10 @@ use Rattle.comparison.specs.SheetMoves.{lawful}
 use Rattle.comparison.specs.ClassLaws.{placeOf-lt, placeOf-at}
 use Rattle.comparison.specs.RoundLaws.{ClosedList, share-round}
 use Rattle.comparison.specs.SetLaws.{explored-seeds, explored-member, explored-ascends, explored-closed, explored-complete, fits-not-over}
-use Rattle.comparison.specs.ResultLaws.{Result, result-is, stable-classes, rounds-of, rounds-at}
-use Rattle.comparison.specs.TrailLaws.{apart-le, apart-together, apart-at}
-use Rattle.comparison.specs.Promise.{ResultRound, Faithful}
+use Rattle.comparison.specs.ResultLaws.{Result, result-is, classes-by-first, stable-classes, rounds-of, rounds-at}
+use Rattle.comparison.specs.TrailLaws.{apart-le, trail-none}
+use Rattle.comparison.specs.TrailWalk.{together-below, apart-first, trail-walkable}
+use Rattle.comparison.specs.Promise.{ResultRound, NumberedByFirst, Walkable, Faithful}
 
 -- round m holds what round n holds, m up to n
 pub round-down : (sheet : Sheet) (m k : ℕ) (p q : Configuration) → Round (transitions sheet) (k + m) p q → Round (transitions sheet) m p q
@@ -98,24 +100,10 @@ module _ (sheet : Sheet) (wf : WellFormed sheet) (l : Limits) (seeds : List Conf
       abbrev apart : ℕ
       apart = apartIn set (rounds sheet set) p q
 
-      -- below the round that separates them, two are together
-      together-below : (m : ℕ) → m < apart → Round T m p q
-      together-below m h =
-          let k : m < length (rounds sheet set) = omega (arith, apart-le set (rounds sheet set) p q) in
-          share-round sheet wf set closed-set m p q mp mq .0
-          (subst (λ (c : List ℕ). share set c p q ≡ true) (rounds-at sheet set wf closed-set some m k) (apart-together set (rounds sheet set) p q m h))
-
-      -- one of the rounds separates them
-      not-together : apart < length (rounds sheet set) → Round T apart p q → ⊥
-      not-together h g =
-          true-false (share set (getD (rounds sheet set) apart []) p q)
-          (subst (λ (c : List ℕ). share set c p q ≡ true) (sym (rounds-at sheet set wf closed-set some apart h)) (share-round sheet wf set closed-set apart p q mp mq .1 g))
-          (apart-at set (rounds sheet set) p q h)
-
-      -- none does: they are together in every round
+      -- where no round separates them, they are together in every round
       together-always : apart ≡ length (rounds sheet set) → (n : ℕ) → Round T n p q
       together-always e n =
-          let atN : Round T N p q = together-below N (omega (arith, rounds-length)) in
+          let atN : Round T N p q = together-below sheet wf set closed-set some p q mp mq N (omega (arith, rounds-length)) in
           go atN (tested (ltb n N))
         where
           go : Round T N p q → Tested (ltb n N) → Round T n p q
@@ -129,18 +117,18 @@ module _ (sheet : Sheet) (wf : WellFormed sheet) (l : Limits) (seeds : List Conf
 
       -- the two sides of a verdict
       pub data Told : Verdict → ℕ → Type 0 where
-        told-same : ((n : ℕ) → Round T n p q) → Told SAME N
-        told-diff : FirstApart T (Round T) apart p q → Told DIFF apart
+        told-same : apart ≡ length (rounds sheet set) → ((n : ℕ) → Round T n p q) → Told SAME N
+        told-diff : apart < length (rounds sheet set) → FirstApart T (Round T) apart p q → Told DIFF apart
 
       pub told : Told (verdictOf (rounds sheet set) apart) (roundOf (rounds sheet set) apart)
       told = go (eqb apart (length (rounds sheet set))) refl
         where
           go : (b : Bool) → eqb apart (length (rounds sheet set)) ≡ b → Told (cond b SAME DIFF) (cond b N apart)
-          go true e = told-same (together-always (eqb-true apart (length (rounds sheet set)) e))
+          go true e = let s : apart ≡ length (rounds sheet set) = eqb-true apart (length (rounds sheet set)) e in told-same s (together-always s)
           go false e =
               let h : apart < length (rounds sheet set) =
               omega (arith, apart-le set (rounds sheet set) p q, eqb-false apart (length (rounds sheet set)) e) in
-              told-diff (record { apart = not-together h; together = together-below })
+              told-diff h (apart-first sheet wf set closed-set some p q mp mq h)
 
 -- ---- a report that is not refused is faithful
 pub member-some : (xs : List Configuration) {p : Configuration} → List·Memᴰ p xs → 1 ≤ length xs
@@ -195,23 +183,42 @@ module _ (sheet : Sheet) (wf : WellFormed sheet) (l : Limits) (p q : Configurati
       (bisimulation-level (transitions sheet) (lawful sheet wf) (b .relation) (b .is-bisimulation) n p q (b .contains))
 
   diff-of : {v : Verdict} {n : ℕ} → Tells v n → (v ≡ DIFF) ↔ (Bisimilar (transitions sheet) p q → ⊥)
-  diff-of (told-same f) = ((λ e. absurd (same-not-diff e)), (λ g. absurd (g (together-bisimilar f))))
-  diff-of (told-diff f) = ((λ e b. f .apart (bisimilar-together b (apartIn members (rounds sheet members) p q))), (λ g. refl))
+  diff-of (told-same s f) = ((λ e. absurd (same-not-diff e)), (λ g. absurd (g (together-bisimilar f))))
+  diff-of (told-diff h f) = ((λ e b. f .apart (bisimilar-together b (apartIn members (rounds sheet members) p q))), (λ g. refl))
 
   same-of : {v : Verdict} {n : ℕ} → Tells v n → (v ≡ SAME) ↔ ((k : ℕ) → TellsApart (transitions sheet) k p q → ⊥)
-  same-of (told-same f) = ((λ e. always-together (transitions sheet) (lawful sheet wf) p q .0 f), (λ g. refl))
-  same-of (told-diff f) = (
+  same-of (told-same s f) = ((λ e. always-together (transitions sheet) (lawful sheet wf) p q .0 f), (λ g. refl))
+  same-of (told-diff h f) = (
     (λ e. absurd (same-not-diff (sym e))),
     (λ g. absurd (f .apart (always-together (transitions sheet) (lawful sheet wf) p q .1 g (apartIn members (rounds sheet members) p q)))),
   )
 
   diff-round-of : {v : Verdict} {n : ℕ} → Tells v n → v ≡ DIFF → FirstApart (transitions sheet) (Level (transitions sheet)) n p q
-  diff-round-of (told-same f) e = absurd (same-not-diff e)
-  diff-round-of (told-diff f) e = first-apart (transitions sheet) (lawful sheet wf) (apartIn members (rounds sheet members) p q) p q .0 f
+  diff-round-of (told-same s f) e = absurd (same-not-diff e)
+  diff-round-of (told-diff h f) e = first-apart (transitions sheet) (lawful sheet wf) (apartIn members (rounds sheet members) p q) p q .0 f
 
   same-round-of : {v : Verdict} {n : ℕ} → Tells v n → v ≡ SAME → ResultRound sheet seeds n
-  same-round-of (told-same f) e = result-of
-  same-round-of (told-diff f) e = absurd (same-not-diff (sym e))
+  same-round-of (told-same s f) e = result-of
+  same-round-of (told-diff h f) e = absurd (same-not-diff (sym e))
+
+  closed-members : ClosedList sheet members
+  closed-members = explored-closed sheet l seeds within-limits
+
+  classes-of : NumberedByFirst (getD (rounds sheet members) (resultOf (rounds sheet members)) [])
+  classes-of =
+      let n : ℕ = resultOf (rounds sheet members) in
+      subst NumberedByFirst
+      (sym (rounds-at sheet members wf closed-members some-member n (omega (arith, rounds-of sheet members wf closed-members some-member .some))))
+      (classes-by-first sheet members n)
+
+  walks-of : {v : Verdict} {n : ℕ} → Tells v n → v ≡ DIFF → Walkable sheet n p q (trail sheet members (rounds sheet members) p q)
+  walks-of (told-same s f) e = absurd (same-not-diff e)
+  walks-of (told-diff h f) e =
+      trail-walkable sheet wf members closed-members some-member (length (rounds sheet members)) p q left-in right-in h (omega (arith, h))
+
+  no-steps-of : {v : Verdict} {n : ℕ} → Tells v n → v ≡ SAME → trail sheet members (rounds sheet members) p q ≡ []
+  no-steps-of (told-same s f) e = trail-none sheet members (rounds sheet members) (length (rounds sheet members)) p q s
+  no-steps-of (told-diff h f) e = absurd (same-not-diff (sym e))
 
   pub report-faithful : Faithful sheet p q (reportOn sheet members p q)
   unfolding reportOn
@@ -226,6 +233,9 @@ module _ (sheet : Sheet) (wf : WellFormed sheet) (l : Limits) (p q : Configurati
         diff-round = diff-round-of t;
         same = same-of t;
         same-round = same-round-of t;
+        numbering = classes-of;
+        trail-walks = walks-of t;
+        trail-none = no-steps-of t;
         left-place = (placeOf-lt members p left-in, placeOf-at members p left-in);
         right-place = (placeOf-lt members q right-in, placeOf-at members q right-in);
       }

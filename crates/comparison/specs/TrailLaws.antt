@@ -1,16 +1,16 @@
 -- Where two configurations come apart, and how long a trail can be: each step leads to a pair that an earlier round has
 -- apart.
 use mathlib.Core.Path.{_≡_, refl, sym, ap, subst}
-use mathlib.Core.Logic.{⊎-elim}
+use mathlib.Core.Logic.{_⊎_, inl, inr, ⊎-elim}
 use mathlib.Core.Bool.{Bool, true, false, cond, not, _&&_, _||_}
-use mathlib.Core.List.{List, [], _∷_, List·Memᴰ, List·Memᴰ·head, List·Memᴰ·tail, List·Memᴰ·cases-cons}
+use mathlib.Core.List.{List, [], _∷_, List·Memᴰ, List·Memᴰ·head, List·Memᴰ·tail, List·Memᴰ·not-nil, List·Memᴰ·cases-cons, List·Memᴰ·eq-of-singleton}
 use Prim.Native.Nat.{ℕ, zero, suc, _-_, _≤_, _<_}
 use native.Mathlib.Omega.{arith}
 use lib.ListN.{length, getD}
 use lib.Dec.{eqb, ltb}
-use borrow.Author.Tests.{eqb-true, eqb-false, eq-eqb, not-false}
+use borrow.Author.Tests.{eqb-true, eqb-false, eq-eqb, ltb-true, ltb-false, not-false}
 use Rattle.lists.specs.Tests.{and-left, and-right, or-right, or-false, same-test, not-passes, not-back, Tested, tested, passes, fails}
-use Rattle.lists.specs.Members.{select, mem-select, any-no}
+use Rattle.lists.specs.Members.{select, mem-select, select-mem, any-no}
 use Rattle.sheets.specs.Sheet.{Configuration, Sheet}
 use Rattle.moves.specs.Orders.{Move}
 use Rattle.moves.specs.Moves.{moves}
@@ -56,6 +56,31 @@ highest-mem value best (m ∷ ms) = go (ltb (value (best .target)) (value (m .ta
         ⊎-elim (λ (e : highest value best ms ≡ best). List·Memᴰ·head e) (λ (i : List·Memᴰ (highest value best ms) ms). List·Memᴰ·tail (List·Memᴰ·tail i))
         (List·Memᴰ·cases-cons (ih best))
 
+-- no target has a higher value
+pub highest-most : (value : Configuration → ℕ) (best : Move) (ms : List Move) {k : Move} → List·Memᴰ k (best ∷ ms)
+    → value (k .target) ≤ value (highest value best ms .target)
+highest-most value best [] {k} i =
+    let e : k ≡ best = List·Memᴰ·eq-of-singleton i in let v : value (k .target) ≡ value (best .target) = cc in omega (arith, v)
+highest-most value best (m ∷ ms) {k} i =
+    go (ltb (value (best .target)) (value (m .target))) refl (λ c. highest-most value c ms {k = c} (List·Memᴰ·head refl))
+    (λ c h. highest-most value c ms {k = k} (List·Memᴰ·tail h))
+    (List·Memᴰ·cases-cons i)
+  where
+    go : (b : Bool) → ltb (value (best .target)) (value (m .target)) ≡ b
+        → ((c : Move) → value (c .target) ≤ value (highest value c ms .target))
+        → ((c : Move) → List·Memᴰ k ms → value (k .target) ≤ value (highest value c ms .target))
+        → (k ≡ best) ⊎ List·Memᴰ k (m ∷ ms) → value (k .target) ≤ value (highest value (cond b m best) ms .target)
+    go true t first later (inl e) =
+        let v : value (k .target) ≡ value (best .target) = cc in omega (arith, v, ltb-true (value (best .target)) (value (m .target)) t, first m)
+    go false t first later (inl e) = let v : value (k .target) ≡ value (best .target) = cc in omega (arith, v, first best)
+    go b t first later (inr j) = ⊎-elim (λ (e : k ≡ m). at b t e) (λ (h : List·Memᴰ k ms). later (cond b m best) h) (List·Memᴰ·cases-cons j)
+      where
+        at : (b : Bool) → ltb (value (best .target)) (value (m .target)) ≡ b → k ≡ m
+            → value (k .target) ≤ value (highest value (cond b m best) ms .target)
+        at true t e = let v : value (k .target) ≡ value (m .target) = cc in omega (arith, v, first m)
+        at false t e =
+            let v : value (k .target) ≡ value (m .target) = cc in omega (arith, v, ltb-false (value (best .target)) (value (m .target)) t, first best)
+
 module _ (sheet : Sheet) (set : List Configuration) (rs : List (List ℕ)) where
   -- a move that is taken is one of its member's, irredundant, and unanswered
   pub unanswered-mem : (classes : List ℕ) (p q : Configuration) {m : Move} → List·Memᴰ m (unanswered sheet set rs classes p q)
@@ -79,6 +104,31 @@ module _ (sheet : Sheet) (set : List Configuration) (rs : List (List ℕ)) where
           let i : List·Memᴰ k (x ∷ xs) = subst (λ (y : Move). List·Memᴰ y (x ∷ xs)) f (highest-mem (apartIn set rs (m .target)) x xs) in
           let y = mem-select (λ k. eqb (k .label) (m .label)) (moves sheet q) (subst (λ (l : List Move). List·Memᴰ k l) (sym s) i) in
           (y .0, eqb-true (k .label) (m .label) (y .1))
+
+  -- no move with the mover's label leads to a target that a higher round separates
+  pub reply-highest : (q : Configuration) (m k c : Move) → replyTo sheet set rs q m ≡ move k → List·Memᴰ c (moves sheet q) → c .label ≡ m .label
+      → apartIn set rs (m .target) (c .target) ≤ apartIn set rs (m .target) (k .target)
+  reply-highest q m k c e i l =
+      go (select (λ k. eqb (k .label) (m .label)) (moves sheet q))
+      (select-mem (λ k. eqb (k .label) (m .label)) (moves sheet q) i (eq-eqb (c .label) (m .label) l)) e
+    where
+      go : (ks : List Move) → List·Memᴰ c ks → highestOf (apartIn set rs (m .target)) ks ≡ move k
+          → apartIn set rs (m .target) (c .target) ≤ apartIn set rs (m .target) (k .target)
+      go [] j e = absurd (List·Memᴰ·not-nil j)
+      go (x ∷ xs) j e =
+          let f : highest (apartIn set rs (m .target)) x xs ≡ k = cc in
+          subst (λ (y : Move). apartIn set rs (m .target) (c .target) ≤ apartIn set rs (m .target) (y .target)) f
+          (highest-most (apartIn set rs (m .target)) x xs j)
+
+  -- where there is no reply, the other has no move with the mover's label
+  pub reply-none : (q : Configuration) (m c : Move) → replyTo sheet set rs q m ≡ none → List·Memᴰ c (moves sheet q) → c .label ≡ m .label → ⊥
+  reply-none q m c e i l =
+      go (select (λ k. eqb (k .label) (m .label)) (moves sheet q))
+      (select-mem (λ k. eqb (k .label) (m .label)) (moves sheet q) i (eq-eqb (c .label) (m .label) l)) e
+    where
+      go : (ks : List Move) → List·Memᴰ c ks → highestOf (apartIn set rs (m .target)) ks ≡ none → ⊥
+      go [] j e = List·Memᴰ·not-nil j
+      go (x ∷ xs) j e = let no : _≡_ {A = ℕ} 0 1 = cc in absurd (omega arith)
 
   -- the reply to a move that has no answer leads to a pair that this round has apart
   pub reply-apart : (r : ℕ) → r < length rs → (q : Configuration) (m k : Move) → answers sheet set (getD rs r []) q m ≡ false

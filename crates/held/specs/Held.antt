@@ -35,7 +35,7 @@ abbrev pub answerWith : {A : Type 0} → (ℕ → A) → Section → Reading A
 answerWith f (Got v next) = got (f v) next
 answerWith f (Refused number place) = refused number place
 
--- the node that a kind byte and two held fields stand for, its set closed already
+-- the node that a kind byte and two held fields stand for, its set closed already; every kind above 3 stands for an either
 abbrev pub nodeHeld : ℕ → ℕ → ℕ → Node
 nodeHeld kind first second =
     cond (eqb kind 0) stop (cond (eqb kind 1) (tell first) (cond (eqb kind 2) (ask first second) (cond (eqb kind 3) (both first second) (either first second))))

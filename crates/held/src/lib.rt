@@ -1,4 +1,13 @@
-// How a sheet that was read is held: types and the limits of a sheet. No functions.
+// How a sheet that was read is held: types, the limits of a sheet, and a configuration as three numbers and back.
+use packing::Numbers;
+ghost use mathlib.Core.Path.{_≡_};
+ghost use Prim.Native.Nat.{_≤_, _<_};
+ghost use lib.ListN.{length};
+ghost use lib.Bits.{bitOr};
+ghost use Rattle.moves.specs.Orders.{configurationBefore};
+ghost use Rattle.packing.specs.Packing.{standsFor, PackedIn};
+ghost use Rattle.held.specs.Held.{configuration};
+ghost use Rattle.held.specs.Adding.{joined};
 
 // What reading a field or a section gives: a value and the place after it, or the refusal's number and place.
 pub enum Section {
@@ -11,6 +20,51 @@ pub struct Configuration {
     pub store: u16,
     pub count: u8,
     pub threads: [u8; 8],
+}
+
+impl Configuration {
+    // The three numbers that stand for it.
+    pub fn numbers(self) -> Numbers
+        requires { ⌜ self .count ≤ 8 ⌝ }
+        ensures { λ r. ⌜ PackedIn r × (standsFor r ≡ configuration self) ⌝ }
+    {
+        let threads = self.threads;
+        let count = self.count as usize;
+        packing::numbers_of(self.store, count, &threads)
+    }
+
+    // A constraint added: the configuration with the joined store, closed by the table of closures.
+    pub fn add(mut self, table: &[u32], b: u16) -> Configuration
+        requires { ⌜ bitOr b (self .store) < length (now table) ⌝ }
+        ensures { λ r. ⌜ r ≡ joined (now (table .entry)) b self ⌝ }
+    {
+        let sum = b | self.store;
+        self.store = closures::closure_at(table, sum);
+        self
+    }
+
+    // Whether it stands before the other in the order of configurations.
+    pub fn before(self, other: Configuration) -> bool
+        requires { ⌜ (self .count ≤ 8) × (other .count ≤ 8) ⌝ }
+        ensures { λ r. ⌜ r ≡ configurationBefore (configuration self) (configuration other) ⌝ }
+    {
+        let x = self.numbers();
+        let y = other.numbers();
+        x.compare(y) == 0
+    }
+}
+
+// The configuration that three numbers stand for.
+pub fn configuration_of(x: Numbers) -> Configuration
+    requires { ⌜ PackedIn x ⌝ }
+    ensures { λ r. ⌜ (configuration r ≡ standsFor x) × (r .count ≤ 8) ⌝ }
+{
+    let threads = packing::threads_of(x.b, x.c);
+    Configuration {
+        store: (x.a / 256) as u16,
+        count: (x.a % 256) as u8,
+        threads,
+    }
 }
 
 // Nodes by number: kind byte, first field (a set is closed) and second field.

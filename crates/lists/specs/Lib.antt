@@ -5,3 +5,7 @@ pub mod Tables
 pub mod Counting
 pub mod SortingLaws
 pub mod Storing
+pub mod Frames
+pub mod Tabulated
+pub mod Entering
+pub mod Places

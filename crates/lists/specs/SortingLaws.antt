@@ -3,9 +3,11 @@
 use mathlib.Core.Path.{_≡_, refl, sym, ap, _∙_}
 use mathlib.Core.Bool.{Bool, true, false, cond}
 use mathlib.Core.List.{List, [], _∷_, _++_, append-nil, append-assoc}
-use Prim.Native.Nat.{ℕ}
+use Prim.Native.Nat.{ℕ, _+_, _<_}
 use native.Mathlib.Omega.{arith}
-use lib.Seq.{append-snoc}
+use native.Mathlib.Numerals.{add-one}
+use lib.ListN.{length, getD, take, drop, length-drop}
+use lib.Seq.{append-snoc, take-suc, getD-drop}
 use lib.Dec.{leb}
 use borrow.Author.Tests.{leb-true, leb-false, lt-leb}
 use Rattle.lists.specs.Ascending.{insertUp, sortUp, NotFalling, sortUp-same, sortUp-notFalling}
@@ -66,3 +68,19 @@ insertAll-sorted xs (y ∷ ys) =
 -- insertion keeps the order
 pub insertUp-ascends : (x : ℕ) (xs : List ℕ) → NotFalling xs → NotFalling (insertUp x xs)
 insertUp-ascends x xs n = rw (sortUp-same xs n) at (sortUp-notFalling (x ∷ xs))
+
+-- ---- numbers of a table, from a place on, put one after another among the first n of a list
+pub inserted-next : (xs threads more table : List ℕ) (n i at : ℕ) → at + i < length table → NotFalling (take (n + i) threads)
+    → take (n + i) threads ≡ insertAll xs (take i (drop at table)) → take (n + i + 1) more ≡ insertUp (getD table (at + i) 0) (take (n + i) threads)
+    → NotFalling (take (n + (i + 1)) more) × (take (n + (i + 1)) more ≡ insertAll xs (take (i + 1) (drop at table)))
+inserted-next xs threads more table n i at l up inv new =
+    let s : n + (i + 1) ≡ n + i + 1 = omega arith in
+    let part : List ℕ = drop at table in
+    let one : take (i + 1) part ≡ take i part ++ (getD table (at + i) 0 ∷ []) =
+    ap (λ (m : ℕ). take m part) (add-one i)
+    ∙ take-suc part i 0 (simp length-drop (omega arith))
+    ∙ ap (λ (t : ℕ). take i part ++ (t ∷ [])) (getD-drop at table i 0) in
+    rw s (
+      rw new (insertUp-ascends (getD table (at + i) 0) (take (n + i) threads) up),
+      new ∙ ap (insertUp (getD table (at + i) 0)) inv ∙ sym (ap (insertAll xs) one ∙ insertAll-next xs (take i part) (getD table (at + i) 0)),
+    )

@@ -1,10 +1,14 @@
 -- A list given by its elements: element i is f i, for i below a count.
-use mathlib.Core.Path.{_≡_, refl, _∙_}
+use mathlib.Core.Path.{_≡_, refl, ap, _∙_}
 use mathlib.Core.List.{List, [], _∷_, _++_}
 use Prim.Native.Nat.{ℕ, zero, suc, _+_, _<_}
 use native.Mathlib.Omega.{arith}
 use native.Mathlib.Numerals.{add-one}
-use lib.ListN.{length, length-append}
+use lib.ListN.{length, getD, length-append, List·getD-append}
+use lib.Seq.{getD-at}
+use lib.Dec.{ltb}
+use borrow.Author.Tests.{ltb-true, ltb-false}
+use Rattle.lists.specs.Tests.{Tested, passes, fails, tested}
 
 module _ {A : Type 0} where
   -- f 0, f 1 and so on, n of them; the last one last
@@ -30,3 +34,17 @@ module _ {A : Type 0} where
   unfolding tabulate
   tabulate-length f zero = refl
   tabulate-length f (suc n) = length-append (tabulate f n) (f n ∷ []) ∙ rw (tabulate-length f n, add-one)
+
+  -- the element at each place below the count
+  pub tabulate-at : (f : ℕ → A) (n k : ℕ) (d : A) → k < n → getD (tabulate f n) k d ≡ f k
+  unfolding tabulate
+  tabulate-at f zero k d l = absurd (omega arith)
+  tabulate-at f (suc n) k d l = go (tabulate-at f n k d) (tested (ltb k n))
+    where
+      go : (k < n → getD (tabulate f n) k d ≡ f k) → Tested (ltb k n) → getD (tabulate f n ++ (f n ∷ [])) k d ≡ f k
+      go ih (passes t) =
+          let h = ltb-true k n t in
+          List·getD-append (tabulate f n) (f n ∷ []) d k (omega (arith, tabulate-length f n)) ∙ ih h
+      go ih (fails t) =
+          let e : n ≡ k = omega (arith, ltb-false k n t) in
+          getD-at (tabulate f n) (f n) [] d k (tabulate-length f n ∙ e) ∙ ap f e

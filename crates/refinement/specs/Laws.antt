@@ -1,5 +1,5 @@
--- What the theorems ask of labelled moves, and no more. Moves of the sheet have it (crate bisimilarity); any others that
--- have it are covered too.
+-- What the theorems ask of labelled moves, and no more. Moves of the sheet have it (crate comparison, `SheetMoves`); any
+-- others that have it are covered too.
 use mathlib.Core.Path.{_≡_}
 use Prim.Native.Nat.{ℕ, _<_}
 use Rattle.refinement.specs.Refinement.{Transitions}

@@ -1,0 +1,197 @@
+// The set explored: the least unexplored member next, until none is left. Stores only grow along moves and additions, so
+// members of one store come one after the other, and labels are worked out once for each store and asked set.
+use collecting::Caps;
+use collecting::Noted;
+use collecting::Running;
+use labelling::Shelf;
+use walks::Basis;
+use walks::Walk;
+use walks::Walked;
+use work_places::MEMBERS;
+use work_places::SPANS;
+ghost use mathlib.Core.Path.{_≡_};
+ghost use mathlib.Core.Bool.{cond};
+ghost use Prim.Native.Nat.{_+_, _≤_, _<_};
+ghost use lib.Dec.{eqb};
+ghost use lib.ListN.{length, getD, set};
+ghost use Rattle.movability.specs.Movability.{nodesHeld};
+ghost use Rattle.members.specs.Layout.{Kept};
+ghost use Rattle.labelling.specs.Shelf.{Shelved, noEntries};
+ghost use Rattle.work_places.specs.WorkPlaces.{spansAt, workEnd};
+ghost use Rattle.collecting.specs.Collected.{memberPart};
+ghost use Rattle.walks.specs.Walking.{NodesLent};
+ghost use Rattle.exploring.specs.Exploration.{basisOf, Exploring};
+ghost use Rattle.exploring.specs.Steps.{spanOf, storeIn, NextPlace, MemberExplored, SetExplored};
+
+// What stays the same while the set is explored: how many facts and nodes the sheet has, and the caps.
+pub struct Plan {
+    pub facts: u16,
+    pub nodes: usize,
+    pub caps: Caps,
+}
+
+// Members and moves with the shelf of labels after a member was explored, or that a cap is passed.
+pub enum Explored {
+    On(Running, Shelf),
+    Over,
+}
+
+// Stores where the moves of a member stand.
+fn put_span(w: &mut [u32], id: usize, first: usize, end: usize)
+    requires { ⌜ (id < 512) × (first ≤ end) × (end ≤ 4096) × (workEnd ≤ length (now w)) ⌝ }
+    ensures { λ _. ⌜ now (w .exit) ≡ set (now (w .entry)) (spansAt + id) (spanOf first end) ⌝ }
+{
+    w[SPANS + id] = (first as u32) * 65536 + (end - first) as u32 + 1;
+}
+
+// One member: its moves, and what is added.
+fn explore_member(
+    w: &mut [u32],
+    kinds: &[u8; 64],
+    firsts: &[u16; 64],
+    seconds: &[u16; 64],
+    counts: &[u8; 64],
+    threads: &[u8; 512],
+    movables: &[u8; 64],
+    plan: Plan,
+    id: usize,
+    s: Running,
+    shelf: Shelf,
+) -> Explored
+    requires { ⌜ NodesLent (now kinds) (now firsts) (now seconds) (now counts) (now threads) (now movables) (basisOf plan 0 0)
+        × Exploring (now w) plan s × (id < s .members) × (getD (now w) (spansAt + id) 0 ≡ 0)
+        × Shelved (now w) (plan .facts) (storeIn (now w) id) shelf ⌝ }
+    ensures { λ r. ⌜ MemberExplored (nodesHeld (now (kinds .entry)) (now (firsts .entry)) (now (seconds .entry)) (plan .nodes)) plan
+        (now (w .entry)) s id (now (w .exit)) r ⌝ }
+{
+    let first = s.moves;
+    let x = members::key_of(w, MEMBERS, s.members, id);
+    let e = held::configuration_of(x);
+    let caps = plan.caps;
+    let b = Basis {
+        facts: plan.facts,
+        nodes: plan.nodes,
+        store: e.store,
+        first,
+        caps,
+    };
+    let begun = Walk {
+        running: s,
+        shelf,
+        marks: 0,
+        top: 0,
+    };
+    let r = member_moves::moves_of(
+        w,
+        kinds,
+        firsts,
+        seconds,
+        counts,
+        threads,
+        movables,
+        b,
+        e,
+        begun,
+    );
+    let Walked::On(t) = r else {
+        return Explored::Over;
+    };
+    let running = t.running;
+    let kept = t.shelf;
+    let q = additions::add_labels(w, b, running);
+    let Noted::On(u) = q else {
+        return Explored::Over;
+    };
+    put_span(w, id, first, u.moves);
+    Explored::On(u, kept)
+}
+
+// Whether a member is unexplored: no span is stored.
+fn unexplored(w: &[u32], id: usize) -> bool
+    requires { ⌜ (id < 512) × (workEnd ≤ length (now w)) ⌝ }
+    ensures { λ r. ⌜ r ≡ eqb (getD (now (w .entry)) (spansAt + id) 0) 0 ⌝ }
+{
+    w[SPANS + id] == 0
+}
+
+// The lowest place from `low` on whose member is unexplored; n where there is none.
+fn next_place(w: &[u32], low: usize, n: usize) -> usize
+    requires { ⌜ Kept (memberPart (now w)) n × (low ≤ n) × (workEnd ≤ length (now w)) ⌝ }
+    ensures { λ r. ⌜ NextPlace (now (w .entry)) low n r ⌝ }
+{
+    let mut j = low;
+    while j < n {
+        let id = members::id_at(w, MEMBERS, n, j);
+        if unexplored(w, id) {
+            return j;
+        }
+        j += 1;
+    }
+    n
+}
+
+// The shelf, with no entries where the store is another.
+fn shelf_for(shelf: Shelf, store: u32, other: u32) -> Shelf
+    ensures { λ r. ⌜ r ≡ cond (eqb store other) shelf noEntries ⌝ }
+{
+    if store == other {
+        return shelf;
+    }
+    Shelf { sets: 0, used: 0 }
+}
+
+// Explores until every member is explored.
+pub fn explore(
+    w: &mut [u32],
+    kinds: &[u8; 64],
+    firsts: &[u16; 64],
+    seconds: &[u16; 64],
+    counts: &[u8; 64],
+    threads: &[u8; 512],
+    movables: &[u8; 64],
+    plan: Plan,
+    s: Running,
+) -> Noted
+    requires { ⌜ NodesLent (now kinds) (now firsts) (now seconds) (now counts) (now threads) (now movables) (basisOf plan 0 0)
+        × Exploring (now w) plan s ⌝ }
+    ensures { λ r. ⌜ SetExplored (nodesHeld (now (kinds .entry)) (now (firsts .entry)) (now (seconds .entry)) (plan .nodes)) plan
+        (now (w .entry)) s (now (w .exit)) r ⌝ }
+{
+    let mut run = s;
+    let mut shelf = Shelf { sets: 0, used: 0 };
+    let mut store: u32 = 65536;
+    loop {
+        let n = run.members;
+        let j = next_place(w, run.low, n);
+        if j == n {
+            return Noted::On(run);
+        }
+        let id = members::id_at(w, MEMBERS, n, j);
+        let d = members::store_of(w, MEMBERS, n, id) as u32;
+        let fit = shelf_for(shelf, store, d);
+        let from = Running {
+            members: n,
+            moves: run.moves,
+            low: j,
+        };
+        let r = explore_member(
+            w,
+            kinds,
+            firsts,
+            seconds,
+            counts,
+            threads,
+            movables,
+            plan,
+            id,
+            from,
+            fit,
+        );
+        let Explored::On(next, kept) = r else {
+            return Noted::Over;
+        };
+        run = next;
+        shelf = kept;
+        store = d;
+    }
+}

@@ -1,0 +1,51 @@
+-- Where c is inside d the least store is the one label; else the labels are those that the scan finds.
+use borrow.Author.Needs.{needs}
+use native.Mathlib.Omega.{arith}
+use Prim.Native.Nat.{_+_, _/_, _^_}
+use lib.ListN.{getD}
+use Rattle.labelling.specs.ScanLaws.{least-alone, same-set}
+use Rattle.labelling.proofs.labels_from.Statement.{statement}
+use Rattle.labelling.proofs.labels_from.Tie as tie
+
+slice-read-w : tie.Need-slice-read-w
+slice-read-w c = search needs
+
+mul-w : tie.Need-mul-w
+mul-w c = search needs
+
+slice-write-w : tie.Need-slice-write-w
+slice-write-w c = search needs
+
+same-length : tie.Need-same-length
+same-length c = search needs
+
+returns : tie.Need-returns
+returns c =
+    let start = c .before .before .before in
+    let x = start .args in (
+      least-alone (x .facts) (x .d) (x .c) (x .at) (x .w .now) (start .pre) (c .before .if1 .taken),
+      omega arith,
+      same-set (x .at) (x .at + 2 ^ x .facts / 2 + 2) (x .w .now) (x .at) (getD (x .w .now) 0 0) (omega arith) (omega arith),
+    )
+
+scan-labels-requires : tie.Need-scan-labels-requires
+scan-labels-requires c κs = search needs
+
+same-length-2 : tie.Need-same-length-2
+same-length-2 c = search needs
+
+returns-2 : tie.Need-returns-2
+returns-2 c = search needs
+
+pub labels-from-spec : {M : Type 1} → statement M
+labels-from-spec =
+    tie.close
+    (tie.spec
+    slice-read-w
+    mul-w
+    slice-write-w
+    same-length
+    returns
+    scan-labels-requires
+    same-length-2
+    returns-2)

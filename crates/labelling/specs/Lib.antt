@@ -1,0 +1,5 @@
+pub mod Labels
+pub mod FoundLaws
+pub mod ScanLaws
+pub mod Shelf
+pub mod ShelfLaws

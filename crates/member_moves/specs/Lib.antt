@@ -1,0 +1,2 @@
+pub mod MovesFound
+pub mod FoundLaws

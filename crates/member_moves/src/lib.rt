@@ -1,0 +1,91 @@
+// The moves of one member: a walk for each of its threads, with the others beside it.
+use held::Configuration;
+use walks::Basis;
+use walks::Walk;
+use walks::Walked;
+ghost use mathlib.Core.Path.{_≡_};
+ghost use Prim.Native.Nat.{_≤_, _<_};
+ghost use Rattle.held.specs.Held.{configuration};
+ghost use Rattle.movability.specs.Movability.{nodesHeld};
+ghost use Rattle.walks.specs.Walking.{NodesLent, MemberFits, Walking};
+ghost use Rattle.member_moves.specs.MovesFound.{MovesFound, NextFound};
+
+// The moves of the thread at place i. An equal thread before it gives the same.
+fn thread_moves(
+    w: &mut [u32],
+    kinds: &[u8; 64],
+    firsts: &[u16; 64],
+    seconds: &[u16; 64],
+    counts: &[u8; 64],
+    threads: &[u8; 512],
+    movables: &[u8; 64],
+    b: Basis,
+    e: Configuration,
+    i: usize,
+    s: Walk,
+) -> Walked
+    requires { ⌜ NodesLent (now kinds) (now firsts) (now seconds) (now counts) (now threads) (now movables) b × Walking (now w) b s
+        × (s .top ≡ 0) × MemberFits b (configuration e) × (e .count ≤ 8) × (b .store ≡ e .store) × (i < e .count) ⌝ }
+    ensures { λ r. ⌜ NextFound (nodesHeld (now (kinds .entry)) (now (firsts .entry)) (now (seconds .entry)) (b .nodes)) b
+        (now (w .entry)) s (configuration e) i (now (w .exit)) r ⌝ }
+{
+    let own = e.threads;
+    if 0 < i && own[i - 1] == own[i] {
+        return Walked::On(s);
+    }
+    let rest = pending::without(e, i);
+    pending::push(w, 0, own[i] as u16, rest);
+    let running = s.running;
+    let shelf = s.shelf;
+    let t = Walk {
+        running,
+        shelf,
+        marks: s.marks,
+        top: 1,
+    };
+    visiting::walk(w, kinds, firsts, seconds, counts, threads, movables, b, t)
+}
+
+// The moves of all threads of e.
+pub fn moves_of(
+    w: &mut [u32],
+    kinds: &[u8; 64],
+    firsts: &[u16; 64],
+    seconds: &[u16; 64],
+    counts: &[u8; 64],
+    threads: &[u8; 512],
+    movables: &[u8; 64],
+    b: Basis,
+    e: Configuration,
+    s: Walk,
+) -> Walked
+    requires { ⌜ NodesLent (now kinds) (now firsts) (now seconds) (now counts) (now threads) (now movables) b × Walking (now w) b s
+        × (s .top ≡ 0) × (s .marks ≡ 0) × MemberFits b (configuration e) × (e .count ≤ 8) × (b .store ≡ e .store) ⌝ }
+    ensures { λ r. ⌜ MovesFound (nodesHeld (now (kinds .entry)) (now (firsts .entry)) (now (seconds .entry)) (b .nodes)) b
+        (now (w .entry)) s (configuration e) (now (w .exit)) r ⌝ }
+{
+    let mut cur = s;
+    let mut i: usize = 0;
+    let n = e.count as usize;
+    while i < n {
+        let r = thread_moves(
+            w,
+            kinds,
+            firsts,
+            seconds,
+            counts,
+            threads,
+            movables,
+            b,
+            e,
+            i,
+            cur,
+        );
+        let Walked::On(next) = r else {
+            return Walked::Over;
+        };
+        cur = next;
+        i += 1;
+    }
+    Walked::On(cur)
+}

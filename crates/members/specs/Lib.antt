@@ -1,0 +1,7 @@
+pub mod Layout
+pub mod Entry
+pub mod MemberLaws
+pub mod Searching
+pub mod Raising
+pub mod Entering
+pub mod Part

@@ -1,0 +1,2 @@
+pub mod Movability
+pub mod MovabilityLaws

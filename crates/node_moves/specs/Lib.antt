@@ -1,0 +1,3 @@
+pub mod NodeMoves
+pub mod ThreadLaws
+pub mod NodeMoveLaws

@@ -1,0 +1,5 @@
+pub mod Packing
+pub mod Comparing
+pub mod PackingLaws
+pub mod Bytes
+pub mod FromArray

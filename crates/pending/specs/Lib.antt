@@ -1,0 +1,4 @@
+pub mod PendingNodes
+pub mod PendingLaws
+pub mod Stored
+pub mod Shifting

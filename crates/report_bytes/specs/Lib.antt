@@ -1,0 +1,4 @@
+pub mod HeldReport
+pub mod ReportHeld
+pub mod ReportHeldLaws
+pub mod Putting

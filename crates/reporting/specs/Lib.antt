@@ -1,0 +1,2 @@
+pub mod ReportMade
+pub mod ReportMadeLaws

@@ -1,0 +1,2 @@
+pub mod SetText
+pub mod SetTextLaws

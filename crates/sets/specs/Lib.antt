@@ -1,0 +1,5 @@
+pub mod FoundSets
+pub mod SeedLaws
+pub mod SheetLaws
+pub mod WholeLaws
+pub mod FindLaws

@@ -1,0 +1,12 @@
+pub mod ClassBirths
+pub mod RoundLines
+pub mod AddedStores
+pub mod MemberLines
+pub mod DominatingMoves
+pub mod ClassesPresent
+pub mod SetClasses
+pub mod SplitParts
+pub mod SplitWrites
+pub mod ClassPlaces
+pub mod HeldRounds
+pub mod HeldParts

@@ -1,0 +1,78 @@
+-- `number_classes` goes from place to place: numbers go up by first member, and tell apart what the classes told apart.
+use lib.ListN.{length}
+use Rattle.verdicts.specs.NumberedPlaces.{Numbering, numbering-first, numbering-class, numbering-next}
+use Rattle.verdicts.specs.ReportClasses.{renumbered}
+use mathlib.Core.Path.{subst}
+use borrow.Author.Needs.{needs}
+use native.Mathlib.Omega.{arith}
+use Prim.Native.Nat.{ℕ, _-_, _≤_}
+use mathlib.Core.Path.{_≡_, refl}
+use Rattle.verdicts.proofs.number_classes.Statement.{statement}
+use Rattle.verdicts.proofs.number_classes.Tie as tie
+use Rattle.verdicts.proofs.number_classes.Reads as reads
+use Rattle.verdicts.proofs.number_classes.Lts as lts
+use Rattle.verdicts.proofs.number_class.Reads as number-class-reads
+
+abbrev Inv-loop : tie.InvT-loop
+Inv-loop w₀ n count₀ i₀ w count i = (i ≤ n) × (length w ≡ length w₀) × Numbering w₀ n i w count
+
+abbrev μ-loop : tie.MeasureT-loop
+μ-loop w₀ n count₀ i₀ w count i = n - i
+
+loop-holds : tie.Need-loop-holds Inv-loop μ-loop
+loop-holds c = (omega arith, refl, numbering-first (c .before .args .w .now) (c .before .args .n))
+
+number-class-requires : tie.Need-number-class-requires Inv-loop μ-loop
+number-class-requires c κs =
+    let b = c .before .before .before .before in
+    let g = b .args in
+    let p = b .pre in
+    let l = c .before .before .loop in
+    let N = l .inv .2 in (
+      omega (arith, p .few),
+      omega (arith, p .few, N .few),
+      numbering-class (g .w .now) (g .n) (p .count) (p .classed) (p .few) (p .long) (l .i) (c .before .loop-test .taken) (l .w) (l .count) N,
+      omega (arith, p .long, l .inv .1),
+    )
+
+add-i : tie.Need-add-i Inv-loop μ-loop
+add-i c = search needs
+
+loop-less : tie.Need-loop-less Inv-loop μ-loop
+loop-less c = search needs
+
+loop-again : tie.Need-loop-again Inv-loop μ-loop
+loop-again c =
+    let b = c .before .before .before .before .before .before .before in
+    let g = b .args in
+    let p = b .pre in
+    let l = c .before .before .before .before .before .loop in
+    let s = c .before .before .number-class in
+    let x = numbering-next (g .w .now) (g .n) (p .count) (p .classed) (p .few) (p .long) (l .i)
+    (c .before .before .before .before .loop-test .taken)
+    (l .w) (l .count) (l .inv .2) (s .last .0) (s .result) (s .ensures) in
+    (omega arith, x .only .long, x)
+
+same-length : tie.Need-same-length Inv-loop μ-loop
+same-length c = search needs
+
+returns : tie.Need-returns Inv-loop μ-loop
+returns c =
+    let g = c .before .before .before .args in
+    let l = c .before .loop in
+    let e : l .i ≡ g .n = omega arith in
+    renumbered (g .w .now) (g .n) (l .w) (l .count) (subst (λ (z : ℕ). Numbering (g .w .now) (g .n) z (l .w) (l .count)) e (l .inv .2))
+
+pub number-classes-spec : {M : Type 1} → statement M
+number-classes-spec =
+    tie.close
+    (tie.spec
+    Inv-loop
+    μ-loop
+    loop-holds
+    number-class-requires
+    add-i
+    loop-less
+    loop-again
+    same-length
+    returns)

@@ -1,0 +1,3 @@
+pub mod ApartClasses
+pub mod NumberedPlaces
+pub mod ReportClasses

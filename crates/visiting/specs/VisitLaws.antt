@@ -1,0 +1,175 @@
+-- A node by its kind, and turns one after another.
+use mathlib.Core.Path.{_≡_, sym, ap, _∙_, subst}
+use mathlib.Core.Logic.{inl, inr}
+use mathlib.Core.Bool.{false}
+use mathlib.Core.List.{List, [], _∷_, List·Memᴰ, List·Memᴰ·not-nil}
+use Prim.Native.Nat.{ℕ, _+_, _<_}
+use lib.ListN.{length, getD}
+use borrow.Author.Tests.{ne-eqb}
+use Rattle.lists.specs.Frames.{outside-again}
+use Rattle.lists.specs.Tables.{tabulate-at, tabulate-length, tabulate-none}
+use Rattle.sheets.specs.Sheet.{Node, stop, tell, ask, both, either, Configuration, nodeOf}
+use Rattle.sheets.specs.OpeningLaws.{LowerNames, Lower}
+use Rattle.moves.specs.Orders.{Move}
+use Rattle.node_moves.specs.NodeMoveLaws.{moves-of-stop}
+use Rattle.held.specs.Held.{nodeHeld}
+use Rattle.movability.specs.Movability.{nodesHeld}
+use Rattle.collecting.specs.Collected.{Grown, movesOf}
+use Rattle.collecting.specs.CollectedLaws.{grown-refl, grown-trans}
+use Rattle.gathering.specs.Gathered.{Growth, InHand}
+use Rattle.pending.specs.PendingNodes.{pendingOne, pendingIn}
+use Rattle.walks.specs.declared.Basis.{Basis}
+use Rattle.walks.specs.declared.Walk.{Walk}
+use Rattle.walks.specs.declared.Walked.{Walked}
+use Rattle.walks.specs.declared.Walked.the-variants.{On, Over}
+use Rattle.walks.specs.Walking.{NodesLent, NodeFits, Walking, Held, Covering, OnSheet, Carried, TurnOn, TurnOver, Turned}
+use Rattle.walks.specs.NotedLaws.{noted-none, noted-turn}
+use Rattle.part_visits.specs.Parts.{NodeKnown}
+use Rattle.visiting.specs.declared.Marked.{Marked}
+use Rattle.visiting.specs.Visits.{MarkedAs, WalkedOn}
+use Rattle.visiting.specs.MarkLaws.{grown-sheet, unstacked, last-entry, marked-walking, marked-turn, marked-turn-over, passed-turn}
+
+-- ---- a node by its kind byte and its fields
+module _ (kinds firsts seconds : List ℕ) (n k : ℕ) (l : k < n) where
+  abbrev Is : Node → Type 0
+  Is v = nodeOf (nodesHeld kinds firsts seconds n) k ≡ v
+
+  held-at : Is (nodeHeld (getD kinds k 0) (getD firsts k 0) (getD seconds k 0))
+  held-at = tabulate-at (λ i. nodeHeld (getD kinds i 0) (getD firsts i 0) (getD seconds i 0)) n k stop l
+
+  of-kind : (i : ℕ) → getD kinds k 0 ≡ i → Is (nodeHeld i (getD firsts k 0) (getD seconds k 0))
+  of-kind i e = held-at ∙ ap (λ (j : ℕ). nodeHeld j (getD firsts k 0) (getD seconds k 0)) e
+
+  pub held-stop : getD kinds k 0 ≡ 0 → Is stop
+  held-stop e = of-kind 0 e
+
+  pub held-tell : getD kinds k 0 ≡ 1 → Is (tell (getD firsts k 0))
+  held-tell e = of-kind 1 e
+
+  pub held-ask : getD kinds k 0 ≡ 2 → Is (ask (getD firsts k 0) (getD seconds k 0))
+  held-ask e = of-kind 2 e
+
+  pub held-both : getD kinds k 0 ≡ 3 → Is (both (getD firsts k 0) (getD seconds k 0))
+  held-both e = of-kind 3 e
+
+  pub held-either : (getD kinds k 0 ≡ 0 → ⊥) → (getD kinds k 0 ≡ 1 → ⊥) → (getD kinds k 0 ≡ 2 → ⊥) → (getD kinds k 0 ≡ 3 → ⊥)
+      → Is (either (getD firsts k 0) (getD seconds k 0))
+  held-either a b c d =
+      held-at
+      ∙ simp (ne-eqb (getD kinds k 0) 0 a, ne-eqb (getD kinds k 0) 1 b, ne-eqb (getD kinds k 0) 2 c, ne-eqb (getD kinds k 0) 3 d)
+
+-- a both and an either are made of lower nodes
+pub lower-both : {nodes : List Node} {k p q : ℕ} → Lower nodes → nodeOf nodes k ≡ both p q → (p < k) × (q < k)
+lower-both {nodes} {k} low e = subst (LowerNames k) e (low .at k)
+
+pub lower-either : {nodes : List Node} {k p q : ℕ} → Lower nodes → nodeOf nodes k ≡ either p q → (p < k) × (q < k)
+lower-either {nodes} {k} low e = subst (LowerNames k) e (low .at k)
+
+module _ {kinds firsts seconds counts threads movables : List ℕ} {b : Basis}
+    (h : NodesLent kinds firsts seconds counts threads movables b) where
+  -- as many nodes are held as there are
+  pub lent-length : length (nodesHeld kinds firsts seconds (b .nodes)) ≡ b .nodes
+  lent-length = tabulate-length (λ i. nodeHeld (getD kinds i 0) (getD firsts i 0) (getD seconds i 0)) (b .nodes)
+
+  pub lent-known : (k : ℕ) → k < b .nodes → NodeKnown (nodesHeld kinds firsts seconds (b .nodes)) counts threads movables k
+  lent-known k l = record { opens = h .opens k l; mark = h .movable .at k l }
+
+-- ---- a stop gives nothing
+pub stop-turn : {b : Basis} {v : List ℕ} {s : Walk} {e : Configuration} → Walking v b s → (nodes : List Node) → Lower nodes
+    → e .store < length nodes → nodeOf nodes (e .store) ≡ stop → TurnOn nodes b v s (e ∷ []) v s
+stop-turn {b} {v} {s} {e} k nodes low l q =
+    noted-turn k (noted-none (k .collecting)) nodes e (λ m i. absurd (List·Memᴰ·not-nil i))
+    (λ g o.
+    moves-of-stop (g .sheet) (subst Lower (sym (o .nodes-are)) low) (b .store) (e .threads) (e .store)
+    (subst (λ (ns : List Node). e .store < length ns) (sym (o .nodes-are)) l)
+    (ap (λ (ns : List Node). nodeOf ns (e .store)) (o .nodes-are) ∙ q))
+
+-- ---- the last node to visit, taken out and marked
+module _ {b : Basis} {v : List ℕ} {s : Walk} (k : Walking v b s) (n : ℕ) (last : n + 1 ≡ s .top) {w : List ℕ} {r : Marked}
+    (x : Configuration) (is : x ≡ pendingOne v n) (a : MarkedAs v (s .marks) x w r) where
+  there : MarkedAs v (s .marks) (pendingOne v n) w r
+  there = subst (λ (z : Configuration). MarkedAs v (s .marks) z w r) is a
+
+  pub taken-walking : Walking w b (unstacked s (r .marks) n)
+  taken-walking = marked-walking k n last there
+
+  -- it is passed over where it was marked before
+  pub taken-passed : (nodes : List Node) → r .fresh ≡ false → TurnOn nodes b v s [] w (unstacked s (r .marks) n)
+  taken-passed nodes t = passed-turn k n last there nodes t
+
+  -- else it is visited
+  module _ (y : Configuration) (same : y ≡ x) where
+    pub taken-fits : NodeFits b y
+    taken-fits = subst (NodeFits b) (sym (same ∙ is)) (last-entry k n last there .fits)
+
+    pub taken-low : y .store + n < 64
+    taken-low = subst (λ (z : Configuration). z .store + n < 64) (sym (same ∙ is)) (last-entry k n last there .height)
+
+    pub taken-turned : (nodes : List Node) (u : List ℕ) (t : Walked) → Turned nodes b w (unstacked s (r .marks) n) (y ∷ []) u t
+        → Turned nodes b v s [] u t
+    taken-turned nodes u (On t) h =
+        marked-turn k n last there (subst (λ (z : Configuration). TurnOn nodes b w (unstacked s (r .marks) n) (z ∷ []) u t) (same ∙ is) h)
+    taken-turned nodes u Over h =
+        marked-turn-over k n last there
+        (subst (λ (z : Configuration). TurnOver nodes b w (unstacked s (r .marks) n) (z ∷ []) u) (same ∙ is) h)
+
+-- ---- turns one after another
+-- all is in order, and nothing in hand is lost
+pub record Onward (nodes : List Node) (b : Basis) (v : List ℕ) (s : Walk) (w : List ℕ) (t : Walk) : Type 0 where
+  pub walking : Walking w b t
+  pub grown : Grown v (b .first) (s .running) w (t .running)
+  pub carried : (g : Growth) (h : InHand g) → OnSheet g nodes b v → Covering g h b v s [] → Carried g h b v s [] w t
+
+pub onward-none : {b : Basis} {v : List ℕ} {s : Walk} (nodes : List Node) → Walking v b s → Onward nodes b v s v s
+onward-none {b} {v} {s} nodes k =
+    record {
+      walking = k;
+      grown = grown-refl v (b .first) (s .running);
+      carried = λ g h o c. record { covering = c; carries = λ m i. i };
+    }
+
+module _ {nodes : List Node} {b : Basis} {v : List ℕ} {s : Walk} {u : List ℕ} {r : Walk} (k : Walking v b s)
+    (a : Onward nodes b v s u r) where
+  pub onward-next : {w : List ℕ} {t : Walk} → TurnOn nodes b u r [] w t → Onward nodes b v s w t
+  onward-next {w} {t} x =
+      record {
+        walking = x .walking;
+        grown = grown-trans v u w (b .first) (s .running) (r .running) (t .running) (a .grown) (x .grown);
+        carried = λ g h o c.
+            let y = a .carried g h o c in
+            let z = x .carried g h (grown-sheet k (a .grown .outside) o) (y .covering) in
+            record { covering = z .covering; carries = λ m i. z .carries m (y .carries m i) };
+      }
+
+  pub onward-over : {w : List ℕ} → TurnOver nodes b u r [] w → TurnOver nodes b v s [] w
+  onward-over x =
+      record {
+        passes = λ g h o c. x .passes g h (grown-sheet k (a .grown .outside) o) (a .carried g h o c .covering);
+        outside = outside-again (a .grown .outside) (x .outside);
+      }
+
+  -- no node is left to visit
+  pub onward-end : r .top ≡ 0 → WalkedOn nodes b v s u r
+  onward-end z =
+      record {
+        walking = a .walking;
+        none-left = z;
+        grown = a .grown;
+        covering = λ g h o c. a .carried g h o c .covering;
+        collected = λ g h o c m i. all-collected g m (a .carried g h o c .carries m i);
+      }
+    where
+      none : pendingIn u (r .top) ≡ []
+      none = ap (pendingIn u) z ∙ tabulate-none (pendingOne u)
+
+      all-collected : (g : Growth) (m : Move) → Held g b u r [] m → List·Memᴰ m (movesOf u (b .first) (r .running))
+      all-collected g m (inl i) = i
+      all-collected g m (inr x) = absurd (List·Memᴰ·not-nil (subst (List·Memᴰ (x .0)) none (x .1)))
+
+-- ---- the answer of a turn taken apart
+module _ {nodes : List Node} {b : Basis} {v : List ℕ} {s : Walk} {extra : List Configuration} {w : List ℕ} {r : Walked} where
+  pub turned-on : {t : Walk} → r ≡ On t → Turned nodes b v s extra w r → TurnOn nodes b v s extra w t
+  turned-on e h = subst (Turned nodes b v s extra w) e h
+
+  pub turned-over : r ≡ Over → Turned nodes b v s extra w r → TurnOver nodes b v s extra w
+  turned-over e h = subst (Turned nodes b v s extra w) e h

@@ -1,0 +1,3 @@
+pub mod Walking
+pub mod PushedLaws
+pub mod NotedLaws
