@@ -1,12 +1,15 @@
-// Reads a sheet from standard input and prints one line: READ and its counts, or REFUSED with number and place. A sheet has at
-// most 724 bytes, so one byte more is enough to refuse a longer input.
+// Reads a sheet from standard input, compares its starts 0 and 1 and prints the report or the refusal. A sheet has at most 724
+// bytes, so one byte more is enough to refuse a longer input.
 use libc::STDIN_FILENO;
 use libc::STDOUT_FILENO;
 
 fn main() {
     let mut sheet = [0u8; 725];
+    let mut answer = [0u8; 10237];
+    let mut work = [0u32; 16384];
+    let mut out = [0u8; 65536];
     let n = io::read_full(STDIN_FILENO, &mut sheet);
-    let mut out = [0u8; 128];
-    let k = reading_text::reading_line(&sheet[..n], 0, 1, &mut out);
+    let r = comparing::compare(&sheet[..n], 0, 1, &mut answer, &mut work);
+    let k = outcome_text::outcome_text(r, &answer, &mut out);
     io::write_all(STDOUT_FILENO, &out[..k]);
 }

@@ -21,7 +21,7 @@ pub enum Chosen {
 }
 
 // The chosen starts as the first two seeds.
-fn chosen_seeds(starts: [Configuration; 16], left: usize, right: usize) -> [Configuration; 16]
+pub fn chosen_seeds(starts: [Configuration; 16], left: usize, right: usize) -> [Configuration; 16]
     requires { ⌜ (left < 16) × (right < 16) ⌝ }
     ensures { λ r. ⌜ Seeds starts left right r ⌝ }
 {

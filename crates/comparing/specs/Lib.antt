@@ -1,0 +1,4 @@
+pub mod RefusalNumbers
+pub mod Compared
+pub mod ComparedLaws
+pub mod CallPromise

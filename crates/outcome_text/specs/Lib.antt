@@ -1,0 +1,3 @@
+pub mod PrintableReports
+pub mod OutcomeText
+pub mod OutcomeTextLaws

@@ -1,0 +1,89 @@
+-- Each variant of the call's answer is printed as the outcome that is returned so.
+use mathlib.Core.Path.{_≡_, refl, sym, ap, ap₂, _∙_, subst}
+use mathlib.Core.Bool.{Bool, false, cond}
+use mathlib.Core.List.{List, [], _∷_, _++_}
+use Prim.Native.Nat.{ℕ, _≤_}
+use native.Mathlib.Omega.{arith}
+use lib.ListN.{length, take, drop}
+use lib.Seq.{take-append-seam}
+use lib.Dec.{ltb}
+use borrow.Author.Tests.{le-ltb}
+use Rattle.lines.specs.Lines.{line, refusedWord}
+use Rattle.comparison.specs.Report as spec
+use Rattle.comparison.specs.Report.{Verdict, SAME, DIFF, reportBytes, reportLength}
+use Rattle.comparison.specs.Call.{Outcome, reported, refusal, answerAfter, compare}
+use Rattle.comparison.specs.Print.{printed}
+use Rattle.text.specs.Slices.{lineRoom, Written}
+use Rattle.report_text.specs.ReportText as report
+use Rattle.report_text.specs.ReportText.{ReportWritten}
+use Rattle.reporting.specs.declared.Reported.{Reported}
+use Rattle.reporting.specs.declared.Answer.{Answer}
+use Rattle.reporting.specs.declared.Answer.the-variants.{Report, Refused}
+use Rattle.reporting.specs.ReportMade.{isSame, returnedOf, returned}
+use Rattle.outcome_text.specs.PrintableReports.{outcome-printable}
+use Rattle.outcome_text.specs.OutcomeText.{Answered, OutcomeWritten}
+
+-- an answer after a report begins with its bytes
+pub answer-begins : (q : spec.Report) (before after : List ℕ) → after ≡ answerAfter (reported q) before
+    → take (reportLength q) after ≡ reportBytes q
+answer-begins q before after e =
+    ap (take (reportLength q)) e ∙ take-append-seam (reportBytes q) (drop (reportLength q) before)
+
+-- what the call returns and leaves in the answer slice can be printed
+pub call-answered : (bytes : List ℕ) (first second work room : ℕ) (before after : List ℕ) (o : Outcome)
+    → compare bytes first second work room ≡ o → after ≡ answerAfter o before → Answered o after
+call-answered bytes first second work room before after (reported q) e a =
+    (outcome-printable bytes first second work room q e, answer-begins q before after a)
+call-answered bytes first second work room before after (refusal number place) e a = tt
+
+-- the two tests of a verdict are one
+same-test-of : (v : Verdict) → isSame v ≡ report.isSame v
+same-test-of SAME = refl
+same-test-of DIFF = refl
+
+-- the text of a report
+pub report-outcome : {r : Answer} {x : Reported} → r ≡ Report x → (answer before after : List ℕ) (k : ℕ)
+    → ReportWritten (x .same) (x .round) answer before after k → OutcomeWritten r answer before after k
+report-outcome {r} {x} is answer before after k w = record {
+  text = λ o e a. both o (sym is ∙ e) a .1;
+  count = λ o e a. both o (sym is ∙ e) a .0;
+  inside = w .inside;
+  counted = w .counted;
+}
+  where
+    both : (o : Outcome) → Report x ≡ returned o → Answered o answer
+        → (k ≡ length (printed o)) × (after ≡ printed o ++ drop (length (printed o)) before)
+    both (reported q) e a =
+        let x-is : x ≡ returnedOf q = cc in
+        w .report q (a .0) (ap (λ (y : Reported). y .same) x-is ∙ same-test-of (q .verdict)) (ap (λ (y : Reported). y .round) x-is) (a .1)
+    both (refusal number place) e a = let z : _≡_ {A = ℕ} 0 1 = cc in absurd (omega arith)
+
+-- the line of a refusal
+pub refusal-outcome : {r : Answer} {number place : ℕ} → r ≡ Refused number place → (answer before after : List ℕ) (k : ℕ)
+    → lineRoom ≤ length before → Written (line refusedWord (number ∷ place ∷ [])) before after k → OutcomeWritten r answer before after k
+refusal-outcome {r} {number} {place} is answer before after k room w = record {
+  text = λ o e a. both o (sym is ∙ e) .1;
+  count = λ o e a. both o (sym is ∙ e) .0;
+  inside = w .inside;
+  counted = w .counted;
+}
+  where
+    whole : ltb (length before) lineRoom ≡ false
+    whole = le-ltb (length before) lineRoom room
+
+    -- what was written, as a text with room
+    written : (k ≡ length (printed (refusal number place)))
+        × (after ≡ printed (refusal number place) ++ drop (length (printed (refusal number place))) before)
+    written =
+        let text : List ℕ = line refusedWord (number ∷ place ∷ []) in
+        let rest : List ℕ = drop (length text) before in
+        (w .count ∙ ap (λ (b : Bool). cond b 0 (length text)) whole, w .slice ∙ ap (λ (b : Bool). cond b before (text ++ rest)) whole)
+
+    both : (o : Outcome) → Refused number place ≡ returned o
+        → (k ≡ length (printed o)) × (after ≡ printed o ++ drop (length (printed o)) before)
+    both (reported q) e = let z : _≡_ {A = ℕ} 0 1 = cc in absurd (omega arith)
+    both (refusal n p) e =
+        let number-is : number ≡ n = cc in
+        let place-is : place ≡ p = cc in
+        let same : refusal number place ≡ refusal n p = ap₂ refusal number-is place-is in
+        subst (λ (o : Outcome). (k ≡ length (printed o)) × (after ≡ printed o ++ drop (length (printed o)) before)) same written
