@@ -5,11 +5,8 @@ use libc::STDOUT_FILENO;
 
 fn main() {
     let mut sheet = [0u8; 725];
-    let mut answer = [0u8; 10237];
-    let mut work = [0u32; 16384];
     let mut out = [0u8; 65536];
     let n = io::read_full(STDIN_FILENO, &mut sheet);
-    let r = comparing::compare(&sheet[..n], 0, 1, &mut answer, &mut work);
-    let k = outcome_text::outcome_text(r, &answer, &mut out);
+    let k = sheet_text::sheet_text(&sheet[..n], &mut out);
     io::write_all(STDOUT_FILENO, &out[..k]);
 }

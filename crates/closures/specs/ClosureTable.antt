@@ -4,12 +4,19 @@ use mathlib.Core.List.{List}
 use Prim.Native.Nat.{ℕ, _%_, _^_, _≤_, _<_}
 use native.Mathlib.Omega.{arith}
 use lib.ListN.{getD}
-use Rattle.stores.specs.Stores.{Rule, conclusions, closure}
+use Rattle.stores.specs.Sets.{Within}
+use Rattle.stores.specs.Stores.{Rule, Closed, conclusions, closure}
 use Rattle.stores.specs.StoreLaws.{closure-lt}
 
 -- the table has the closure of every set from k on, below the size
 pub record Closures (rs : List Rule) (k size : ℕ) (table : List ℕ) : Type 0 where
   pub at : (s : ℕ) → k ≤ s → s < size → getD table s 0 ≡ closure rs s
+
+-- s grew to t on the way to its closure, and by nothing only where it is closed
+pub record GrownBy (rs : List Rule) (s t : ℕ) : Type 0 where
+  pub above : Within s t
+  pub inside : (c : ℕ) → Closed rs c → Within s c → Within t c
+  pub same : t ≡ s → Closed rs s
 
 -- the entry of a set of the table's facts, cut to 16 digits, is the closure of the set
 pub closure-at : (rs : List Rule) (n : ℕ) (table : List ℕ) (s : ℕ) → Closures rs 0 (2 ^ n) table → s < 2 ^ n → conclusions rs < 2 ^ n

@@ -151,7 +151,7 @@ module _ (l : Limits) (bytes : List ℕ) (left right : ℕ) (v before : List ℕ
       → Compared (compareWith l bytes left right (length v) (length before)) v before v before (Refused number place)
   unfolding compareWith
   call-refused {number} {place} e =
-      let few : number ≤ 15 = number-low bytes left right number place e in
+      let few : number ≤ 15 = number-low bytes left right number place e .within in
       let o : compareWith l bytes left right (length v) (length before) ≡ refusal number place =
       ap (afterReading l left right (length v) (length before)) e in
       let t : (eqb number 21 || eqb number 22) ≡ false =

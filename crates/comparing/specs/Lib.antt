@@ -1,4 +1,3 @@
 pub mod RefusalNumbers
 pub mod Compared
 pub mod ComparedLaws
-pub mod CallPromise

@@ -1,33 +1,36 @@
--- The sets found by trying all in ascending order are the labels.
+-- The sets found are labels, and all of them: what is found by trying the sets that have all facts of d in ascending order.
 use mathlib.Core.Path.{_≡_, refl, sym, ap, _∙_, subst}
-use mathlib.Core.Bool.{Bool, true, false, cond, not, _&&_}
-use mathlib.Core.List.{List, [], _∷_, _++_, List·Memᴰ}
-use Prim.Native.Nat.{ℕ, zero, suc, _+_, _^_, _≤_, _<_}
+use mathlib.Core.Logic.{_⊎_, inl, inr, ⊎-elim}
+use mathlib.Core.Bool.{Bool, true, false, cond, not}
+use mathlib.Core.List.{List, [], _∷_, _++_, List·Memᴰ, List·Memᴰ·head, List·Memᴰ·not-nil, Memᴰ·append-left, Memᴰ·append-right, List·Memᴰ·append-cases, List·Memᴰ·eq-of-singleton}
+use Prim.Native.Nat.{ℕ, zero, suc, _+_, _-_, _^_, _≤_, _<_}
 use native.Mathlib.Omega.{arith}
-use native.Mathlib.Numerals.{add-one}
-use lib.ListN.{length, getD, set, take, drop, length-drop}
-use lib.Seq.{take-suc, take-suc-set, take-set-le, getD-drop}
-use lib.Bits.{bitOr, or-lt}
-use borrow.Author.Tests.{eq-eqb, ne-eqb}
-use Rattle.lists.specs.Tests.{and-left, and-right, and-intro, or-fails, or-false, or-left, or-right, same-test}
-use Rattle.lists.specs.Members.{select, any, any-yes, any-mem, mem-select, select-mem}
-use Rattle.stores.specs.Sets.{within-trans, within-le}
-use Rattle.stores.specs.Stores.{closure, includes, strictlyBelow}
-use Rattle.stores.specs.StoreLaws.{includes-within, within-includes, below-within, within-below}
+use lib.ListN.{length, getD, take, drop, length-drop}
+use lib.Seq.{getD-drop}
+use lib.Bits.{bitOr}
+use lib.Dec.{eqb, ltb}
+use borrow.Author.Tests.{eq-eqb, ne-eqb, eqb-true, eqb-false, ltb-true, ltb-false}
+use Rattle.lists.specs.Tests.{true-false, and-left, and-right, and-intro, or-fails, or-left, or-right, not-passes, not-back}
+use Rattle.lists.specs.Members.{any, any-yes, any-mem}
+use Rattle.lists.specs.Counting.{no-elements, one-more, distinct-append}
+use Rattle.stores.specs.Sets.{Within, within-trans, within-or-left, within-or-right, or-least, within-le}
+use Rattle.stores.specs.Stores.{Constraint, conclusions, closure, join, includes}
+use Rattle.stores.specs.StoreLaws.{includes-within, within-includes, closure-constraint}
 use Rattle.sheets.specs.Sheet.{Sheet}
-use Rattle.moves.specs.Moves.{countUp, isClosed, constraints, isMinimal, makesTrue, labels}
-use Rattle.moves.specs.LabelLaws.{countUp-mem, mem-countUp, constraints-only, label-below}
+use Rattle.moves.specs.Moves.{labels}
+use Rattle.moves.specs.LabelLaws.{label-constraint, label-makes-true, label-below, label-minimal}
 use Rattle.closures.specs.ClosureTable.{Closures}
-use Rattle.labelling.specs.Labels.{LabelsAre, passesBy, isNext, foundBelow}
+use Rattle.labelling.specs.Outside.{Has, or-above, above-next, next-least, has-or}
+use Rattle.labelling.specs.LabelOrder.{label-outside}
+use Rattle.labelling.specs.Labels.{Found, InsideAt, passesBy, isNext}
 
 -- ---- a test over the sets found
 module _ (p : ℕ → Bool) where
-  any-append : (xs : List ℕ) (x : ℕ) → any p xs ≡ false → p x ≡ false → any p (xs ++ (x ∷ [])) ≡ false
-  any-append [] x h k = or-fails k refl
-  any-append (y ∷ xs) x h k = let q = or-false (p y) (any p xs) h in or-fails (q .0) (any-append xs x (q .1) k)
-
-  any-next : (xs : List ℕ) (i : ℕ) → i < length xs → any p (take i xs) ≡ false → p (getD xs i 0) ≡ false → any p (take (i + 1) xs) ≡ false
-  any-next xs i l h k = rw (add-one i, take-suc xs i 0 l) (any-append (take i xs) (getD xs i 0) h k)
+  any-none : (xs : List ℕ) (n : ℕ) → ((i : ℕ) → i < n → i < length xs → p (getD xs i 0) ≡ false) → any p (take n xs) ≡ false
+  any-none [] zero h = refl
+  any-none [] (suc n) h = refl
+  any-none (x ∷ xs) zero h = refl
+  any-none (x ∷ xs) (suc n) h = or-fails (h 0 (omega arith) (omega arith)) (any-none xs n (λ i l k. h (suc i) (omega arith) (omega arith)))
 
   any-hit : (xs : List ℕ) (n i : ℕ) → i < n → n ≤ length xs → p (getD xs i 0) ≡ true → any p (take n xs) ≡ true
   any-hit [] n i h l k = absurd (omega arith)
@@ -35,172 +38,179 @@ module _ (p : ℕ → Bool) where
   any-hit (x ∷ xs) (suc n) zero h l k = or-left (any p (take n xs)) k
   any-hit (x ∷ xs) (suc n) (suc i) h l k = or-right (p x) (any-hit xs n i (omega arith) (omega arith) k)
 
-  pub any-next-at : (w : List ℕ) (at i : ℕ) → at + i < length w → any p (take i (drop at w)) ≡ false → p (getD w (at + i) 0) ≡ false
-      → any p (take (i + 1) (drop at w)) ≡ false
-  any-next-at w at i l h k = any-next (drop at w) i (simp length-drop (omega arith)) h (ap p (getD-drop at w i 0) ∙ k)
+module _ (w : List ℕ) (at n a r : ℕ) (h : InsideAt w at (at + n) a r) where
+  -- no set of the part is inside a
+  pub inside-none : at + n ≤ r → any (λ b. includes a b) (take n (drop at w)) ≡ false
+  inside-none e =
+      any-none (λ b. includes a b) (drop at w) n
+      (λ i l k. ap (λ (x : ℕ). includes a x) (getD-drop at w i 0) ∙ h .none e (at + i) (omega arith) (omega arith))
 
-  pub any-hit-at : (w : List ℕ) (at n i : ℕ) → i < n → at + n ≤ length w → p (getD w (at + i) 0) ≡ true → any p (take n (drop at w)) ≡ true
-  any-hit-at w at n i h l k = any-hit (drop at w) n i h (simp length-drop (omega arith)) (ap p (getD-drop at w i 0) ∙ k)
+  -- one is
+  pub inside-some : at + n ≤ length w → r < at + n → any (λ b. includes a b) (take n (drop at w)) ≡ true
+  inside-some l e =
+      let q : at + (r - at) ≡ r = omega (arith, h .ends) in
+      any-hit (λ b. includes a b) (drop at w) n (r - at) (omega (arith, h .ends)) (simp length-drop (omega arith))
+      (ap (λ (x : ℕ). includes a x) (getD-drop at w (r - at) 0 ∙ ap (λ (k : ℕ). getD w k 0) q) ∙ h .inside e)
 
--- ---- numbers counted up
-countUp-last : (b k : ℕ) → countUp b (suc k) ≡ countUp b k ++ ((b + k) ∷ [])
-countUp-last b zero = let e : b ≡ b + 0 = omega arith in ap (λ (x : ℕ). x ∷ []) e
-countUp-last b (suc k) =
-    let e : suc b + k ≡ b + suc k = omega arith in
-    ap (λ (l : List ℕ). b ∷ l) (countUp-last (suc b) k ∙ ap (λ (x : ℕ). countUp (suc b) k ++ (x ∷ [])) e)
-
-select-last : (p : ℕ → Bool) (xs : List ℕ) (x : ℕ) → select p (xs ++ (x ∷ [])) ≡ cond (p x) (select p xs ++ (x ∷ [])) (select p xs)
-select-last p [] x = refl
-select-last p (y ∷ xs) x = go (p y) (p x) (select-last p xs x)
+-- ---- looking for a set inside a
+pub inside-next : (w : List ℕ) (a i : ℕ) {from : ℕ} → ((k : ℕ) → from ≤ k → k < i → includes a (getD w k 0) ≡ false)
+    → includes a (getD w i 0) ≡ false → (k : ℕ) → from ≤ k → k < i + 1 → includes a (getD w k 0) ≡ false
+inside-next w a i h e k l u = go (eqb k i) refl
   where
-    go : (b c : Bool) → select p (xs ++ (x ∷ [])) ≡ cond c (select p xs ++ (x ∷ [])) (select p xs)
-        → cond b (y ∷ select p (xs ++ (x ∷ []))) (select p (xs ++ (x ∷ [])))
-        ≡ cond c (cond b (y ∷ select p xs) (select p xs) ++ (x ∷ [])) (cond b (y ∷ select p xs) (select p xs))
-    go true true e = ap (λ (l : List ℕ). y ∷ l) e
-    go true false e = ap (λ (l : List ℕ). y ∷ l) e
-    go false true e = e
-    go false false e = e
+    go : (b : Bool) → eqb k i ≡ b → includes a (getD w k 0) ≡ false
+    go true q = ap (λ (x : ℕ). includes a (getD w x 0)) (eqb-true k i q) ∙ e
+    go false q = h k l (omega (arith, eqb-false k i q))
 
-module _ (sheet : Sheet) (d c : ℕ) where
-  minimal : ℕ → Bool
-  minimal = isMinimal (makesTrue sheet d c) (constraints sheet)
+module _ (w : List ℕ) (first end hint a : ℕ) (low : first ≤ hint) (high : hint ≤ end) where
+  -- found from the hint on
+  pub inside-later : (i : ℕ) → InsideAt w hint end a i → i < end → InsideAt w first end a i
+  inside-later i h l = record { ends = (omega (arith, h .ends), h .ends .1); inside = h .inside; none = λ e. absurd (omega arith) }
 
-  -- the labels below k
-  labelsBelow : ℕ → List ℕ
-  labelsBelow k = select minimal (select (isClosed sheet) (countUp 0 k))
+  -- found before it
+  pub inside-before : (j : ℕ) → InsideAt w first hint a j → j < hint → InsideAt w first end a j
+  inside-before j h l =
+      record { ends = (h .ends .0, omega (arith, h .ends)); inside = λ e. h .inside l; none = λ e. absurd (omega arith) }
 
-  labels-all : labelsBelow (2 ^ sheet .facts) ≡ labels sheet d c
-  unfolding labels labelsBelow minimal
-  labels-all = refl
-
-  labels-none : labelsBelow 0 ≡ []
-  unfolding labelsBelow
-  labels-none = refl
-
-  labels-next : (a : ℕ) → labelsBelow (suc a) ≡ cond (isClosed sheet a && minimal a) (labelsBelow a ++ (a ∷ [])) (labelsBelow a)
-  unfolding labelsBelow
-  labels-next a =
-      let e : 0 + a ≡ a = omega arith in
-      ap (λ (l : List ℕ). select minimal (select (isClosed sheet) l)) (countUp-last 0 a ∙ ap (λ (x : ℕ). countUp 0 a ++ (x ∷ [])) e)
-      ∙ ap (select minimal) (select-last (isClosed sheet) (countUp 0 a) a)
-      ∙ go (isClosed sheet a)
+  -- not found
+  pub inside-nowhere : (i j : ℕ) → InsideAt w hint end a i → end ≤ i → InsideAt w first hint a j → hint ≤ j → InsideAt w first end a end
+  inside-nowhere i j h l g m =
+      record { ends = (omega arith, omega arith); inside = λ e. absurd (omega arith); none = λ e k p q. go k p q (ltb k hint) refl }
     where
-      go : (b : Bool) → select minimal (cond b (select (isClosed sheet) (countUp 0 a) ++ (a ∷ [])) (select (isClosed sheet) (countUp 0 a)))
-          ≡ cond (b && minimal a) (select minimal (select (isClosed sheet) (countUp 0 a)) ++ (a ∷ []))
-          (select minimal (select (isClosed sheet) (countUp 0 a)))
-      go true = select-last minimal (select (isClosed sheet) (countUp 0 a)) a
-      go false = refl
+      go : (k : ℕ) → first ≤ k → k < end → (b : Bool) → ltb k hint ≡ b → includes a (getD w k 0) ≡ false
+      go k p q true e = g .none m k p (ltb-true k hint e)
+      go k p q false e = h .none l k (ltb-false k hint e) q
 
-  -- the labels below k are the labels that are below k
-  below-label : (k : ℕ) {a : ℕ} → k ≤ 2 ^ sheet .facts → List·Memᴰ a (labelsBelow k) → List·Memᴰ a (labels sheet d c) × (a < k)
-  unfolding labels labelsBelow minimal
-  below-label k {a} l m =
-      let s = mem-select minimal (select (isClosed sheet) (countUp 0 k)) m in
-      let t = mem-select (isClosed sheet) (countUp 0 k) (s .0) in
-      let b : a < k = omega (arith, mem-countUp k 0 (t .0)) in
-      let i = countUp-mem (2 ^ sheet .facts) 0 a (omega arith) (omega arith) in
-      (select-mem minimal (constraints sheet) (select-mem (isClosed sheet) (countUp 0 (2 ^ sheet .facts)) i (t .1)) (s .1), b)
+-- ---- one set more tried
+-- nothing is below d
+pub found-none : (sheet : Sheet) (d c : ℕ) → Found sheet d c d []
+found-none sheet d c =
+    record { only = λ a m. absurd (List·Memᴰ·not-nil m); all = λ a m l. absurd (omega (arith, or-above d a)); distinct = no-elements }
 
-  label-below-k : (k : ℕ) {a : ℕ} → List·Memᴰ a (labels sheet d c) → a < k → List·Memᴰ a (labelsBelow k)
-  unfolding labels labelsBelow minimal
-  label-below-k k {a} m b =
-      let s = mem-select minimal (constraints sheet) m in
-      let t = mem-select (isClosed sheet) (countUp 0 (2 ^ sheet .facts)) (s .0) in
-      let i = countUp-mem k 0 a (omega arith) (omega arith) in
-      select-mem minimal (select (isClosed sheet) (countUp 0 k)) (select-mem (isClosed sheet) (countUp 0 k) i (t .1)) (s .1)
+module _ (sheet : Sheet) (d c : ℕ) (w : List ℕ) (table : Closures (sheet .rules) 0 (2 ^ sheet .facts) w)
+    (fit : conclusions (sheet .rules) < 2 ^ sheet .facts) (v : ℕ) (has : Has d v) (low : v < 2 ^ sheet .facts) where
+  -- the closure of what v has outside d
+  own : ℕ
+  own = getD w (v - d) 0
 
-  label-passes : {a : ℕ} → List·Memᴰ a (labels sheet d c) → List·Memᴰ a (constraints sheet) × (makesTrue sheet d c a ≡ true)
-  unfolding labels
-  label-passes {a} m =
-      let s = mem-select (isMinimal (makesTrue sheet d c) (constraints sheet)) (constraints sheet) m in
-      (s .0, and-left (makesTrue sheet d c a) (not (any (λ b. makesTrue sheet d c b && strictlyBelow b a) (constraints sheet))) (s .1))
+  own-closure : own ≡ closure (sheet .rules) (v - d)
+  unfolding own
+  own-closure = table .at (v - d) (omega arith) (omega arith)
 
-  -- Whether a passing set is minimal can be seen from the labels below it: some candidate that passes is strictly below it
-  -- exactly where some label below it is inside it.
-  smaller-seen : (a : ℕ) → a ≤ 2 ^ sheet .facts
-      → any (λ b. includes a b) (labelsBelow a) ≡ any (λ b. makesTrue sheet d c b && strictlyBelow b a) (constraints sheet)
-  smaller-seen a l =
-      same-test (any (λ b. includes a b) (labelsBelow a)) (any (λ b. makesTrue sheet d c b && strictlyBelow b a) (constraints sheet)) there back
-    where
-      there : any (λ b. includes a b) (labelsBelow a) ≡ true → any (λ b. makesTrue sheet d c b && strictlyBelow b a) (constraints sheet) ≡ true
-      there h =
-          let y = any-yes (λ b. includes a b) (labelsBelow a) h in
-          let m = below-label a l (y .1) in
-          let q = label-passes (m .0) in
-          any-mem (λ b. makesTrue sheet d c b && strictlyBelow b a) (constraints sheet) (q .0)
-          (and-intro (q .1) (within-below (includes-within a (y .0) (y .2)) (λ e. omega (arith, m .1))))
+  own-constraint : Constraint (sheet .facts) (sheet .rules) own
+  own-constraint =
+      subst (Constraint (sheet .facts) (sheet .rules)) (sym own-closure) (closure-constraint (sheet .rules) (sheet .facts) (v - d) (omega arith) fit)
 
-      back : any (λ b. makesTrue sheet d c b && strictlyBelow b a) (constraints sheet) ≡ true → any (λ b. includes a b) (labelsBelow a) ≡ true
-      back h =
-          let y = any-yes (λ b. makesTrue sheet d c b && strictlyBelow b a) (constraints sheet) h in
-          let b = below-within (y .0) a (and-right (makesTrue sheet d c (y .0)) (strictlyBelow (y .0) a) (y .2)) in
-          let x = label-below sheet d c (y .0) (constraints-only sheet (y .1))
-          (includes-within (closure (sheet .rules) (bitOr d (y .0))) c (and-left (makesTrue sheet d c (y .0)) (strictlyBelow (y .0) a) (y .2))) in
-          any-mem (λ b. includes a b) (labelsBelow a)
-          (label-below-k a (x .1) (omega (arith, within-le (x .2), within-le (b .0), b .1)))
-          (within-includes (within-trans (x .2) (b .0)))
+  -- a label whose union with d is v
+  label-own : {a : ℕ} → List·Memᴰ a (labels sheet d c) → bitOr d a ≡ v → own ≡ a
+  label-own m e = own-closure ∙ ap (λ (x : ℕ). closure (sheet .rules) (x - d)) (sym e) ∙ label-outside sheet d c fit m
 
-  module _ (w : List ℕ) (h : Closures (sheet .rules) 0 (2 ^ sheet .facts) w) (s : d < 2 ^ sheet .facts) where
-    next-label : (a : ℕ) → a < 2 ^ sheet .facts → isNext w d c (labelsBelow a) a ≡ (isClosed sheet a && minimal a)
-    unfolding minimal
-    next-label a l =
-        rw (h .at a (omega arith) l, h .at (bitOr d a) (omega arith) (or-lt (sheet .facts) d a s l), smaller-seen a (omega arith))
-        (go (isClosed sheet a) (makesTrue sheet d c a) (any (λ b. makesTrue sheet d c b && strictlyBelow b a) (constraints sheet)))
+  -- the joined store, where own and d make v
+  joined : bitOr d own ≡ v → getD w v 0 ≡ join (sheet .rules) d own
+  joined e = table .at v (omega arith) low ∙ ap (closure (sheet .rules)) (sym e)
+
+  module _ (found : List ℕ) (f : Found sheet d c v found) where
+    -- where v passes and no label found is inside own, own is a label
+    own-label : bitOr d own ≡ v → Within c (getD w v 0) → any (λ b. includes own b) found ≡ false → List·Memᴰ own (labels sheet d c)
+    own-label e makes none =
+        let x = label-below sheet d c own own-constraint (subst (Within c) (joined e) makes) in
+        go (x .0) (x .1) (x .2) (ltb (bitOr d (x .0)) v) refl
       where
-        go : (x y z : Bool) → ((x && y) && not z) ≡ (x && (y && not z))
-        go true y z = refl
-        go false y z = refl
+        go : (a : ℕ) → List·Memᴰ a (labels sheet d c) → Within a own → (b : Bool) → ltb (bitOr d a) v ≡ b → List·Memᴰ own (labels sheet d c)
+        go a m i true l =
+            true-false (any (λ b. includes own b) found)
+            (any-mem (λ b. includes own b) found (f .all a m (ltb-true (bitOr d a) v l)) (within-includes i)) none
+        go a m i false l =
+            let up : Within (bitOr d a) (bitOr d own) = or-least (within-or-left d own) (within-trans i (within-or-right d own)) in
+            let same : bitOr d a ≡ v = omega (arith, ltb-false (bitOr d a) v l, within-le up, e) in
+            subst (λ (x : ℕ). List·Memᴰ x (labels sheet d c)) (sym (label-own m same)) m
 
-    found-labels : (k : ℕ) → k ≤ 2 ^ sheet .facts → foundBelow w d c k ≡ labelsBelow k
-    unfolding foundBelow
-    found-labels zero l = sym labels-none
-    found-labels (suc a) l =
-        let ih : foundBelow w d c a ≡ labelsBelow a = found-labels a (omega arith) in
-        ap (λ (f : List ℕ). cond (isNext w d c f a) (f ++ (a ∷ [])) f) ih
-        ∙ ap (λ (b : Bool). cond b (labelsBelow a ++ (a ∷ [])) (labelsBelow a)) (next-label a (omega arith))
-        ∙ sym (labels-next a)
+    -- where some label's union with d is v, v passes, and no label found is inside own
+    label-next : {a : ℕ} → List·Memᴰ a (labels sheet d c) → bitOr d a ≡ v → isNext w d c found v ≡ true
+    unfolding own
+    label-next {a} m e =
+        and-intro (and-intro (eq-eqb (bitOr d own) v closes) (within-includes makes)) (not-passes (none (any (λ b. includes own b) found) refl))
+      where
+        closes : bitOr d own ≡ v
+        closes = ap (bitOr d) (label-own m e) ∙ e
 
--- every set tried: the labels
-pub found-all : (w : List ℕ) (facts d c : ℕ) → d < 2 ^ facts → LabelsAre w facts d c (foundBelow w d c (2 ^ facts))
-found-all w facts d c s =
-    record {
-      are = λ sheet e h fit.
-          subst (λ (n : ℕ). foundBelow w d c (2 ^ n) ≡ labels sheet d c) e
-          (found-labels sheet d c w (subst (λ (n : ℕ). Closures (sheet .rules) 0 (2 ^ n) w) (sym e) h) (subst (λ (n : ℕ). d < 2 ^ n) (sym e) s)
-          (2 ^ sheet .facts) (omega arith)
-          ∙ labels-all sheet d c);
-    }
+        makes : Within c (getD w v 0)
+        makes = subst (Within c) (sym (table .at v (omega arith) low ∙ ap (closure (sheet .rules)) (sym e))) (label-makes-true sheet d c m)
 
--- ---- the scan
-pub found-none : (w : List ℕ) (d c : ℕ) → foundBelow w d c 0 ≡ []
-unfolding foundBelow
-found-none w d c = refl
+        none : (b : Bool) → any (λ b. includes own b) found ≡ b → any (λ b. includes own b) found ≡ false
+        none false q = q
+        none true q =
+            let y = any-yes (λ b. includes own b) found q in
+            let l = f .only (y .0) (y .1) in
+            let same : y .0 ≡ a =
+            label-minimal sheet d c m (y .0) (label-constraint sheet d c (l .0)) (label-makes-true sheet d c (l .0))
+            (subst (Within (y .0)) (label-own m e) (includes-within own (y .0) (y .2))) in
+            absurd (omega (arith, l .1, ap (bitOr d) same, e))
 
--- one set more tried: it is stored behind those found, and counted where it is a label
-pub found-next : (w : List ℕ) (d c a : ℕ) (out : List ℕ) (n k : ℕ) → take n out ≡ foundBelow w d c a
-    → k ≡ cond (isNext w d c (take n out) a) 1 0 → n + k ≤ length out → take (n + k) (set out n a) ≡ foundBelow w d c (a + 1)
-unfolding foundBelow
-found-next w d c a out n k h q l =
-    rw (add-one a) (go (isNext w d c (take n out) a) q ∙ ap (λ (f : List ℕ). cond (isNext w d c f a) (f ++ (a ∷ [])) f) h)
-  where
-    go : (b : Bool) → k ≡ cond b 1 0 → take (n + k) (set out n a) ≡ cond b (take n out ++ (a ∷ [])) (take n out)
-    go true q = rw (q, add-one n) (take-suc-set out n a (omega arith))
-    go false q = let e : n + k ≡ n = omega arith in rw e (take-set-le n out n a (omega arith))
+    -- a label found next is one whose union is below v, or v
+    next-union : (a : ℕ) → bitOr d a < bitOr d (v + 1) → (bitOr d a < v) ⊎ (bitOr d a ≡ v)
+    next-union a l = go (ltb (bitOr d a) v) refl (ltb v (bitOr d a)) refl
+      where
+        go : (b : Bool) → ltb (bitOr d a) v ≡ b → (t : Bool) → ltb v (bitOr d a) ≡ t → (bitOr d a < v) ⊎ (bitOr d a ≡ v)
+        go true e t q = inl (ltb-true (bitOr d a) v e)
+        go false e true q = absurd (omega (arith, next-least d v (bitOr d a) has (has-or d a) (ltb-true v (bitOr d a) q)))
+        go false e false q = inr (omega (arith, ltb-false (bitOr d a) v e, ltb-false v (bitOr d a) q))
+
+    found-more : bitOr d own ≡ v → Within c (getD w v 0) → any (λ b. includes own b) found ≡ false
+        → Found sheet d c (bitOr d (v + 1)) (found ++ (own ∷ []))
+    found-more e makes none =
+        record {
+          only = λ a m.
+              ⊎-elim (λ (k : List·Memᴰ a found). let o = f .only a k in (o .0, omega (arith, o .1, above-next d v)))
+              (λ (k : List·Memᴰ a (own ∷ [])).
+              let q : a ≡ own = List·Memᴰ·eq-of-singleton k in (
+                subst (λ (x : ℕ). List·Memᴰ x (labels sheet d c)) (sym q) (own-label e makes none),
+                omega (arith, ap (bitOr d) q, e, above-next d v),
+              ))
+              (List·Memᴰ·append-cases found m);
+          all = λ a m l.
+              ⊎-elim (λ (k : bitOr d a < v). Memᴰ·append-left (own ∷ []) (f .all a m k))
+              (λ (k : bitOr d a ≡ v). Memᴰ·append-right found (List·Memᴰ·head (sym (label-own m k)))) (next-union a l);
+          distinct =
+              distinct-append found (own ∷ []) (f .distinct) (one-more (λ m. List·Memᴰ·not-nil m) no-elements)
+              (λ a m k. omega (arith, f .only a m .1, ap (bitOr d) (List·Memᴰ·eq-of-singleton k), e));
+        }
+
+    found-same : isNext w d c found v ≡ false → Found sheet d c (bitOr d (v + 1)) found
+    found-same n =
+        record {
+          only = λ a m. let o = f .only a m in (o .0, omega (arith, o .1, above-next d v));
+          all = λ a m l.
+              ⊎-elim (λ (k : bitOr d a < v). f .all a m k)
+              (λ (k : bitOr d a ≡ v). true-false (isNext w d c found v) (label-next m k) n) (next-union a l);
+          distinct = f .distinct;
+        }
+
+    pub found-next : Found sheet d c (bitOr d (v + 1)) (cond (isNext w d c found v) (found ++ (getD w (v - d) 0 ∷ [])) found)
+    unfolding own
+    found-next = go (isNext w d c found v) refl
+      where
+        go : (b : Bool) → isNext w d c found v ≡ b → Found sheet d c (bitOr d (v + 1)) (cond b (found ++ (own ∷ [])) found)
+        go false n = found-same n
+        go true n =
+            let p = and-left (passesBy w d c v) (not (any (λ b. includes own b) found)) n in
+            found-more (eqb-true (bitOr d own) v (and-left (eqb (bitOr d own) v) (includes (getD w v 0) c) p))
+            (includes-within (getD w v 0) c (and-right (eqb (bitOr d own) v) (includes (getD w v 0) c) p))
+            (not-back (any (λ b. includes own b) found) (and-right (passesBy w d c v) (not (any (λ b. includes own b) found)) n))
 
 -- ---- the tests by the table
-module _ (w : List ℕ) (d c a : ℕ) where
-  pub passes-closed : getD w a 0 ≡ a → passesBy w d c a ≡ includes (getD w (bitOr d a) 0) c
-  passes-closed e = rw (eq-eqb (getD w a 0) a e)
+module _ (w : List ℕ) (d c v : ℕ) where
+  pub passes-closed : bitOr d (getD w (v - d) 0) ≡ v → passesBy w d c v ≡ includes (getD w v 0) c
+  passes-closed e = rw (eq-eqb (bitOr d (getD w (v - d) 0)) v e)
 
-  pub passes-open : (getD w a 0 ≡ a → ⊥) → passesBy w d c a ≡ false
-  passes-open n = rw (ne-eqb (getD w a 0) a n)
+  pub passes-open : (bitOr d (getD w (v - d) 0) ≡ v → ⊥) → passesBy w d c v ≡ false
+  passes-open n = rw (ne-eqb (bitOr d (getD w (v - d) 0)) v n)
 
   module _ (found : List ℕ) where
-    pub next-fails : passesBy w d c a ≡ false → isNext w d c found a ≡ false
+    pub next-fails : passesBy w d c v ≡ false → isNext w d c found v ≡ false
     next-fails e = rw e
 
-    pub next-covered : passesBy w d c a ≡ true → any (λ b. includes a b) found ≡ true → isNext w d c found a ≡ false
+    pub next-covered : passesBy w d c v ≡ true → any (λ b. includes (getD w (v - d) 0) b) found ≡ true → isNext w d c found v ≡ false
     next-covered e h = rw (e, h)
 
-    pub next-found : passesBy w d c a ≡ true → any (λ b. includes a b) found ≡ false → isNext w d c found a ≡ true
+    pub next-found : passesBy w d c v ≡ true → any (λ b. includes (getD w (v - d) 0) b) found ≡ false → isNext w d c found v ≡ true
     next-found e h = rw (e, h)

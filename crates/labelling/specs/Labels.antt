@@ -1,13 +1,14 @@
 -- The labels of an ask, read off a slice that begins with a table of closures.
 use mathlib.Core.Path.{_≡_}
 use mathlib.Core.Logic.{_⊎_}
-use mathlib.Core.Bool.{Bool, cond, not, _&&_}
-use mathlib.Core.List.{List, [], _∷_, _++_}
-use Prim.Native.Nat.{ℕ, zero, suc, _+_, _-_, _/_, _^_, _≤_, _<_}
+use mathlib.Core.Bool.{Bool, true, false, not, _&&_}
+use mathlib.Core.List.{List, List·Memᴰ}
+use Prim.Native.Nat.{ℕ, _+_, _-_, _/_, _^_, _≤_, _<_}
 use lib.ListN.{length, getD, take, drop}
 use lib.Dec.{eqb}
 use lib.Bits.{bitOr}
 use Rattle.lists.specs.Members.{any}
+use Rattle.lists.specs.Counting.{Distinct}
 use Rattle.stores.specs.Stores.{Rule, conclusions, includes}
 use Rattle.sheets.specs.Sheet.{Sheet}
 use Rattle.moves.specs.Moves.{labels}
@@ -41,15 +42,27 @@ pub record LabelRoom (facts d at : ℕ) (w : List ℕ) : Type 0 where
 abbrev pub part : List ℕ → ℕ → ℕ → List ℕ
 part w first end = take (end - first) (drop first w)
 
--- a is closed and makes c true at d, by the table
+-- By the table: the facts that v has outside d close to no more outside d, and v makes c true. v has all facts of d.
 abbrev pub passesBy : List ℕ → ℕ → ℕ → ℕ → Bool
-passesBy w d c a = eqb (getD w a 0) a && includes (getD w (bitOr d a) 0) c
+passesBy w d c v = eqb (bitOr d (getD w (v - d) 0)) v && includes (getD w v 0) c
 
--- a passes, and no label found before is inside it
+-- v passes, and no label found before is inside the closure of what v has outside d
 abbrev pub isNext : List ℕ → ℕ → ℕ → List ℕ → ℕ → Bool
-isNext w d c found a = passesBy w d c a && not (any (λ b. includes a b) found)
+isNext w d c found v = passesBy w d c v && not (any (λ b. includes (getD w (v - d) 0) b) found)
 
--- what is found by trying the sets below k in ascending order
-unfoldable pub foundBelow : List ℕ → ℕ → ℕ → ℕ → List ℕ
-foundBelow w d c zero = []
-foundBelow w d c (suc a) = cond (isNext w d c (foundBelow w d c a) a) (foundBelow w d c a ++ (a ∷ [])) (foundBelow w d c a)
+-- r is a place from `from` on, before `end`, whose set is inside a, or the end, where there is none
+pub record InsideAt (w : List ℕ) (from end a r : ℕ) : Type 0 where
+  pub ends : (from ≤ r) × (r ≤ end)
+  pub inside : r < end → includes a (getD w r 0) ≡ true
+  pub none : end ≤ r → (i : ℕ) → from ≤ i → i < end → includes a (getD w i 0) ≡ false
+
+-- the labels of an ask of c at d whose union with d is below k, each once
+pub record Found (sheet : Sheet) (d c k : ℕ) (found : List ℕ) : Type 0 where
+  pub only : (a : ℕ) → List·Memᴰ a found → List·Memᴰ a (labels sheet d c) × (bitOr d a < k)
+  pub all : (a : ℕ) → List·Memᴰ a (labels sheet d c) → bitOr d a < k → List·Memᴰ a found
+  pub distinct : Distinct found
+
+-- on every sheet with this table
+pub record FoundBelow (w : List ℕ) (facts d c k : ℕ) (found : List ℕ) : Type 0 where
+  pub are : (sheet : Sheet) → sheet .facts ≡ facts → Closures (sheet .rules) 0 (2 ^ facts) w → conclusions (sheet .rules) < 2 ^ facts
+      → Found sheet d c k found

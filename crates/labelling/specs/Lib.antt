@@ -1,3 +1,5 @@
+pub mod Outside
+pub mod LabelOrder
 pub mod Labels
 pub mod FoundLaws
 pub mod ScanLaws

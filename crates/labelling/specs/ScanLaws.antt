@@ -2,20 +2,28 @@
 use mathlib.Core.Path.{_≡_, refl, sym, ap, _∙_, subst}
 use mathlib.Core.Logic.{inl, inr, ⊎-elim}
 use mathlib.Core.Bool.{Bool, true, false, cond}
-use mathlib.Core.List.{List, [], _∷_, _++_}
-use Prim.Native.Nat.{ℕ, zero, suc, _+_, _-_, _/_, _^_, _≤_, _<_}
+use mathlib.Core.List.{List, [], _∷_, _++_, List·Memᴰ}
+use Prim.Native.Nat.{ℕ, _+_, _-_, _/_, _^_, _≤_, _<_}
 use native.Mathlib.Omega.{arith}
-use lib.ListN.{length, getD, set, take, drop, length-append, length-take, length-drop, length-set}
-use lib.Seq.{drop-cons, drop-set-add, getD-set-same, getD-set-other, getD-drop, getD-take, length-take-le, ext-getD}
+use native.Mathlib.Numerals.{add-one}
+use lib.ListN.{length, getD, set, take, drop, length-take, length-drop, length-set}
+use lib.Seq.{drop-cons, drop-set-add, take-suc-set, take-set-le, getD-set-same, getD-set-other, getD-drop, getD-take, length-take-le, ext-getD}
 use lib.Pow.{pow-pos}
-use lib.Bits.{bitAnd, bitOr, or-lt}
+use lib.Bits.{bitAnd, bitOr, or-lt, or-self}
+use Rattle.lists.specs.Ascending.{arrange, arrange-ascends, arrange-keeps, arrange-only, ascends-unique}
+use Rattle.lists.specs.Counting.{Distinct, distinct-length}
+use Rattle.number_lists.specs.NumberLists.{numberOrder, numbersIn}
+use Rattle.number_lists.specs.Entered.{Sorted}
 use Rattle.stores.specs.Sets.{and-within}
 use Rattle.stores.specs.Stores.{conclusions}
 use Rattle.sheets.specs.Sheet.{Sheet}
-use Rattle.moves.specs.LabelLaws.{labels-few, labels-within}
-use Rattle.closures.specs.ClosureTable.{closures-agree}
-use Rattle.labelling.specs.Labels.{TableOf, LabelsAre, LabelRoom, SameOutside, part, isNext, foundBelow}
-use Rattle.labelling.specs.FoundLaws.{found-none, found-next, found-all}
+use Rattle.moves.specs.Moves.{labels}
+use Rattle.moves.specs.LabelLaws.{label-constraint, labels-few, labels-within}
+use Rattle.closures.specs.ClosureTable.{Closures, closures-agree}
+use Rattle.labelling.specs.Outside.{Has, has-or, or-above}
+use Rattle.labelling.specs.LabelOrder.{labels-ascend}
+use Rattle.labelling.specs.Labels.{TableOf, LabelsAre, LabelRoom, SameOutside, part, isNext, Found, FoundBelow}
+use Rattle.labelling.specs.FoundLaws.{found-none, found-next}
 
 -- ---- slices that agree
 pub same-all : (low high : ℕ) (w : List ℕ) → SameOutside low high w w
@@ -64,82 +72,159 @@ pub table-agree : {w : List ℕ} {facts : ℕ} (v : List ℕ) → TableOf facts 
     → ((i : ℕ) → i < 2 ^ facts → getD v i 0 ≡ getD w i 0) → TableOf facts v
 table-agree v t e = record { rules = t .rules; closures = closures-agree (t .closures) e; fit = t .fit }
 
--- ---- how many are found
-module _ (w : List ℕ) (facts d c : ℕ) (t : TableOf facts w) (s : d < 2 ^ facts) where
-  pub all-few : length (foundBelow w d c (2 ^ facts)) ≤ 2 ^ facts / 2 + 1
-  all-few =
-      let sheet : Sheet = record { facts = facts; rules = t .rules; nodes = []; starts = [] } in
-      omega (arith, ap length (found-all w facts d c s .are sheet refl (t .closures) (t .fit)), labels-few sheet d c)
+-- ---- what is found, on every sheet with the table
+module _ {w : List ℕ} {facts d c k : ℕ} {found : List ℕ} (f : FoundBelow w facts d c k found) (t : TableOf facts w) where
+  some : Sheet
+  some = record { facts = facts; rules = t .rules; nodes = []; starts = [] }
 
-found-longer : (w : List ℕ) (d c a : ℕ) → length (foundBelow w d c a) ≤ length (foundBelow w d c (suc a))
-unfolding foundBelow
-found-longer w d c a = go (isNext w d c (foundBelow w d c a) a)
+  on-some : Found some d c k found
+  unfolding some
+  on-some = f .are (record { facts = facts; rules = t .rules; nodes = []; starts = [] }) refl (t .closures) (t .fit)
+
+  pub found-distinct : Distinct found
+  found-distinct = on-some .distinct
+
+  pub found-few : length found ≤ 2 ^ facts / 2 + 1
+  unfolding some
+  found-few =
+      omega (arith, distinct-length found (labels some d c) found-distinct (λ a m. on-some .only a m .0), labels-few some d c)
+
+-- one set more tried
+below-next : (w : List ℕ) (facts d c v : ℕ) (found : List ℕ) → Has d v → v < 2 ^ facts → FoundBelow w facts d c v found
+    → FoundBelow w facts d c (bitOr d (v + 1)) (cond (isNext w d c found v) (found ++ (getD w (v - d) 0 ∷ [])) found)
+below-next w facts d c v found h l f =
+    record {
+      are = λ sheet e t fit.
+          found-next sheet d c w (subst (λ (n : ℕ). Closures (sheet .rules) 0 (2 ^ n) w) (sym e) t)
+          (subst (λ (n : ℕ). conclusions (sheet .rules) < 2 ^ n) (sym e) fit) v h (subst (λ (n : ℕ). v < 2 ^ n) (sym e) l)
+          found (f .are sheet e t fit);
+    }
+
+-- every set tried
+pub below-all : (w : List ℕ) (facts d c v : ℕ) (found : List ℕ) → d < 2 ^ facts → 2 ^ facts ≤ v → FoundBelow w facts d c v found
+    → FoundBelow w facts d c (2 ^ facts) found
+below-all w facts d c v found s l f =
+    record {
+      are = λ sheet e t fit.
+          let g = f .are sheet e t fit in
+          record {
+            only = λ a m. let o = g .only a m in (o .0, low sheet e a (o .0));
+            all = λ a m b. g .all a m (omega arith);
+            distinct = g .distinct;
+          };
+    }
   where
-    go : (b : Bool) → length (foundBelow w d c a) ≤ length (cond b (foundBelow w d c a ++ (a ∷ [])) (foundBelow w d c a))
-    go true = omega (arith, length-append (foundBelow w d c a) (a ∷ []))
-    go false = omega arith
+    low : (sheet : Sheet) → sheet .facts ≡ facts → (a : ℕ) → List·Memᴰ a (labels sheet d c) → bitOr d a < 2 ^ facts
+    low sheet e a m = or-lt facts d a s (subst (λ (n : ℕ). a < 2 ^ n) e (label-constraint sheet d c m .facts))
 
--- the more sets are tried, the more are found
-found-more : (w : List ℕ) (d c a k : ℕ) → length (foundBelow w d c a) ≤ length (foundBelow w d c (a + k))
-found-more w d c a zero = let e : a + 0 ≡ a = omega arith in rw e (omega arith)
-found-more w d c a (suc k) =
-    let e : a + suc k ≡ suc (a + k) = omega arith in
-    rw e (omega (arith, found-more w d c a k, found-longer w d c (a + k)))
-
-found-few : (w : List ℕ) (facts d c a : ℕ) → TableOf facts w → d < 2 ^ facts → a ≤ 2 ^ facts → length (foundBelow w d c a) ≤ 2 ^ facts / 2 + 1
-found-few w facts d c a t s l =
-    let e : a + (2 ^ facts - a) ≡ 2 ^ facts = omega arith in
-    omega (
-      arith,
-      all-few w facts d c t s,
-      subst (λ (j : ℕ). length (foundBelow w d c a) ≤ length (foundBelow w d c j)) e (found-more w d c a (2 ^ facts - a)),
-    )
+-- in ascending order they are the labels
+arranged-labels : (w : List ℕ) (facts d c : ℕ) (found : List ℕ) → d < 2 ^ facts → FoundBelow w facts d c (2 ^ facts) found
+    → LabelsAre w facts d c (arrange numberOrder found)
+arranged-labels w facts d c found s f =
+    record {
+      are = λ sheet e t fit.
+          let g = f .are sheet e t fit in
+          ascends-unique numberOrder (arrange numberOrder found) (labels sheet d c) (arrange-ascends numberOrder found) (labels-ascend sheet d c)
+          (λ a m. g .only a (arrange-only numberOrder found m) .0)
+          (λ a m. arrange-keeps numberOrder found
+          (g .all a m (or-lt facts d a s (subst (λ (n : ℕ). a < 2 ^ n) e (label-constraint sheet d c m .facts)))));
+    }
 
 -- ---- the scan
--- the sets below a are tried: the labels among them, n of them, stand from `at` on, and the rest of the slice is as it was
-pub record Scanned (facts d c at : ℕ) (w : List ℕ) (a n : ℕ) (v : List ℕ) : Type 0 where
-  pub found : take n (drop at v) ≡ foundBelow w d c a
+-- a number stored behind those of a list, and counted or not
+store-next : (out : List ℕ) (n k a : ℕ) (b : Bool) → k ≡ cond b 1 0 → n + k ≤ length out
+    → take (n + k) (set out n a) ≡ cond b (take n out ++ (a ∷ [])) (take n out)
+store-next out n k a true q l = rw (q, add-one n) (take-suc-set out n a (omega arith))
+store-next out n k a false q l = let e : n + k ≡ n = omega arith in rw e (take-set-le n out n a (omega arith))
+
+-- the sets below v that have all facts of d are tried: the labels among them, n of them, stand from `at` on, and the rest of the
+-- slice is as it was
+pub record Scanned (facts d c at : ℕ) (w : List ℕ) (v n : ℕ) (u : List ℕ) : Type 0 where
+  pub above : d ≤ v
+  pub has : Has d v
+  pub found : FoundBelow w facts d c v (take n (drop at u))
+  pub long : length u ≡ length w
   pub few : n ≤ 2 ^ facts / 2 + 1
-  pub same : SameOutside at (at + 2 ^ facts / 2 + 2) w v
+  pub same : SameOutside at (at + 2 ^ facts / 2 + 2) w u
 
 module _ (facts d c at : ℕ) (w : List ℕ) (r : LabelRoom facts d at w) where
-  pub scanned-none : Scanned facts d c at w 0 0 w
+  pub scanned-none : Scanned facts d c at w d 0 w
   scanned-none =
-      record { found = sym (found-none w d c); few = omega arith; same = same-all at (at + 2 ^ facts / 2 + 2) w }
+      record {
+        above = omega arith;
+        has = or-self d;
+        found = record { are = λ sheet e t fit. found-none sheet d c };
+        long = refl;
+        few = omega arith;
+        same = same-all at (at + 2 ^ facts / 2 + 2) w;
+      }
 
-  pub scanned-next : (a n k : ℕ) (v : List ℕ) → Scanned facts d c at w a n v → a < 2 ^ facts
-      → k ≡ cond (isNext v d c (take n (drop at v)) a) 1 0 → k ≤ 1 → Scanned facts d c at w (a + 1) (n + k) (set v (at + n) a)
-  scanned-next a n k v h l q one =
-      record { found = found; few = omega (arith, counted, found-few w facts d c (a + 1) (r .table) (r .store) (omega arith)); same = same }
+  pub scanned-next : (v n k : ℕ) (u : List ℕ) → Scanned facts d c at w v n u → v < 2 ^ facts
+      → k ≡ cond (isNext u d c (take n (drop at u)) v) 1 0 → k ≤ 1
+      → Scanned facts d c at w (bitOr d (v + 1)) (n + k) (set u (at + n) (getD u (v - d) 0))
+  scanned-next v n k u h l q one =
+      record {
+        above = or-above d (v + 1);
+        has = has-or d (v + 1);
+        found = found;
+        long = same .long;
+        few = omega (arith, counted, found-few found (r .table));
+        same = same;
+      }
     where
-      long : length v ≡ length w
-      long = h .same .long
+      own : getD u (v - d) 0 ≡ getD w (v - d) 0
+      own = h .same .same (v - d) (inl (omega (arith, r .behind)))
 
-      tail : n + k ≤ length (drop at v)
-      tail = simp length-drop (omega (arith, r .room, h .few, long))
+      joined : getD u v 0 ≡ getD w v 0
+      joined = h .same .same v (inl (omega (arith, r .behind)))
 
-      at-w : isNext v d c (take n (drop at v)) a ≡ isNext w d c (take n (drop at v)) a
-      at-w =
-          let own : getD v a 0 ≡ getD w a 0 = h .same .same a (inl (omega (arith, r .behind))) in
-          let joined : getD v (bitOr d a) 0 ≡ getD w (bitOr d a) 0 =
-          h .same .same (bitOr d a) (inl (omega (arith, r .behind, or-lt facts d a (r .store) l))) in
-          rw (own, joined)
+      tail : n + k ≤ length (drop at u)
+      tail = simp length-drop (omega (arith, r .room, h .few, h .long))
 
-      found : take (n + k) (drop at (set v (at + n) a)) ≡ foundBelow w d c (a + 1)
+      at-w : isNext u d c (take n (drop at u)) v ≡ isNext w d c (take n (drop at u)) v
+      at-w = rw (own, joined)
+
+      stored : take (n + k) (drop at (set u (at + n) (getD u (v - d) 0)))
+          ≡ cond (isNext w d c (take n (drop at u)) v) (take n (drop at u) ++ (getD w (v - d) 0 ∷ [])) (take n (drop at u))
+      stored =
+          ap (λ (x : ℕ). take (n + k) (drop at (set u (at + n) x))) own
+          ∙ ap (take (n + k)) (drop-set-add at u n (getD w (v - d) 0))
+          ∙ store-next (drop at u) n k (getD w (v - d) 0) (isNext w d c (take n (drop at u)) v) (q ∙ ap (λ (b : Bool). cond b 1 0) at-w) tail
+
+      found : FoundBelow w facts d c (bitOr d (v + 1)) (take (n + k) (drop at (set u (at + n) (getD u (v - d) 0))))
       found =
-          ap (take (n + k)) (drop-set-add at v n a)
-          ∙ found-next w d c a (drop at v) n k (h .found) (q ∙ ap (λ (b : Bool). cond b 1 0) at-w) tail
+          subst (λ (l : List ℕ). FoundBelow w facts d c (bitOr d (v + 1)) l) (sym stored)
+          (below-next w facts d c v (take n (drop at u)) (h .has) l (h .found))
 
-      counted : n + k ≡ length (foundBelow w d c (a + 1))
+      counted : length (take (n + k) (drop at (set u (at + n) (getD u (v - d) 0)))) ≡ n + k
       counted =
-          let t : n + k ≤ length (drop at (set v (at + n) a)) = rw (drop-set-add at v n a) (omega (arith, tail, length-set (drop at v) n a)) in
-          sym (length-take-le (n + k) (drop at (set v (at + n) a)) t) ∙ ap length found
+          length-take-le (n + k) (drop at (set u (at + n) (getD u (v - d) 0)))
+          (rw (drop-set-add at u n (getD u (v - d) 0)) (omega (arith, tail, length-set (drop at u) n (getD u (v - d) 0))))
 
-      same : SameOutside at (at + 2 ^ facts / 2 + 2) w (set v (at + n) a)
-      same = same-trans (h .same) (same-set at (at + 2 ^ facts / 2 + 2) v (at + n) a (omega arith) (omega (arith, h .few)))
+      same : SameOutside at (at + 2 ^ facts / 2 + 2) w (set u (at + n) (getD u (v - d) 0))
+      same = same-trans (h .same) (same-set at (at + 2 ^ facts / 2 + 2) u (at + n) (getD u (v - d) 0) (omega arith) (omega (arith, h .few)))
 
-  pub scanned-all : (n : ℕ) (v : List ℕ) → Scanned facts d c at w (2 ^ facts) n v → LabelsAre w facts d c (take n (drop at v))
-  scanned-all n v h = rw (h .found) (found-all w facts d c (r .store))
+  -- ---- the labels found, put in order
+  module _ (n : ℕ) (u : List ℕ) (few : n ≤ 2 ^ facts / 2 + 1) where
+    numbers-found : (x : List ℕ) → numbersIn x at (at + n) ≡ take n (drop at x)
+    unfolding numbersIn
+    numbers-found x = let e : at + n - at ≡ n = omega arith in ap (λ (m : ℕ). take m (drop at x)) e
+
+    pub numbers-distinct : FoundBelow w facts d c (2 ^ facts) (take n (drop at u)) → Distinct (numbersIn u at (at + n))
+    numbers-distinct f = subst Distinct (sym (numbers-found u)) (found-distinct f (r .table))
+
+    module _ (v : List ℕ) (s : Sorted u at (at + n) v) where
+      pub sorted-labels : FoundBelow w facts d c (2 ^ facts) (take n (drop at u)) → LabelsAre w facts d c (take n (drop at v))
+      sorted-labels f =
+          subst (λ (l : List ℕ). LabelsAre w facts d c l)
+          (sym (sym (numbers-found v) ∙ s .numbers ∙ ap (arrange numberOrder) (numbers-found u)))
+          (arranged-labels w facts d c (take n (drop at u)) (r .store) f)
+
+      pub sorted-same : SameOutside at (at + 2 ^ facts / 2 + 2) w u → SameOutside at (at + 2 ^ facts / 2 + 2) w v
+      sorted-same h =
+          same-trans h
+          (same-wider at (at + 2 ^ facts / 2 + 2) (omega arith) (omega arith)
+          (record { long = s .outside .long; same = λ i o. s .outside .at i o }))
 
   -- where c is inside d, the closure of the empty set alone
   pub least-alone : bitAnd c d ≡ c → LabelsAre w facts d c (take 1 (drop at (set w at (getD w 0 0))))

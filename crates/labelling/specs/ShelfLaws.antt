@@ -11,6 +11,9 @@ use lib.Pow.{pow-mono}
 use lib.Dec.{eqb}
 use borrow.Author.Tests.{eqb-true, eqb-false}
 use Rattle.labelling.specs.declared.Shelf.{Shelf}
+use Rattle.labelling.specs.declared.Labelled.{Labelled}
+use Rattle.labelling.specs.Outside.{outside}
+use Rattle.labelling.specs.LabelOrder.{labels-missing}
 use Rattle.labelling.specs.Labels.{LabelsAre, SameOutside, part}
 use Rattle.labelling.specs.ScanLaws.{same-all, same-trans, same-wider, same-set, part-agree, labels-agree, table-agree}
 use Rattle.labelling.specs.Shelf.{headsAt, listsAt, listsEnd, maxSets, askedOf, firstOf, endOf, putEntry}
@@ -106,6 +109,20 @@ entry-answers w facts d c shelf i h l e =
       high = omega (arith, entry .below, h .room);
       labels = subst (λ (x : ℕ). LabelsAre w facts d x (part w (firstOf w i) (endOf w i))) e (entry .labels);
       same = same-all headsAt listsEnd w;
+    }
+
+-- ---- the asked set
+-- an ask of what d lacks of c, answered, is an ask of c answered
+pub missing-answers : {w : List ℕ} {facts d : ℕ} (c : ℕ) {r : Labelled} {v : List ℕ} → Answered w facts d (outside d c) r v
+    → Answered w facts d c r v
+missing-answers {w} {facts} {d} c h =
+    record {
+      shelved = h .shelved;
+      low = h .low;
+      order = h .order;
+      high = h .high;
+      labels = record { are = λ sheet e t fit. h .labels .are sheet e t fit ∙ labels-missing sheet d c };
+      same = h .same;
     }
 
 -- ---- an entry more

@@ -1,13 +1,12 @@
-// The labels of an ask, worked out once for each store and asked set.
+// The labels of an ask, worked out once for each store and what it lacks of the asked set.
 use closures::sets_of;
+use number_lists::sort_numbers;
 ghost use mathlib.Core.Path.{_≡_};
 ghost use mathlib.Core.Bool.{cond};
 ghost use Prim.Native.Nat.{_+_, _-_, _/_, _≤_, _<_, _^_};
 ghost use lib.ListN.{length, getD, take, drop};
-ghost use lib.Bits.{bitOr};
-ghost use Rattle.lists.specs.Members.{any};
-ghost use Rattle.stores.specs.Stores.{includes};
-ghost use Rattle.labelling.specs.Labels.{LabelsAre, LabelRoom, SameOutside, passesBy, isNext};
+ghost use Rattle.labelling.specs.Outside.{outside};
+ghost use Rattle.labelling.specs.Labels.{LabelsAre, LabelRoom, SameOutside, FoundBelow, InsideAt, passesBy, isNext};
 ghost use Rattle.labelling.specs.Shelf.{listsAt, listsEnd, maxSets, askedOf, putEntry, Shelved, HasRoom, ShelfRoom, Answered};
 
 // The places of the shelf, behind the table: entries of three numbers each, then labels.
@@ -32,60 +31,98 @@ pub struct Labelled {
     pub shelf: Shelf,
 }
 
-// Whether one of the n sets from `at` on is inside a.
-fn has_inside(w: &[u32], at: usize, n: usize, a: u32) -> bool
-    requires { ⌜ at + n ≤ length (now w) ⌝ }
-    ensures { λ r. ⌜ r ≡ any (λ b. includes a b) (take n (drop at (now (w .entry)))) ⌝ }
+// Whether a set gives a label, 1 or 0, and the place to look at first for a label inside the next set.
+struct Tried {
+    count: usize,
+    hint: usize,
+}
+
+// The first place from `from` on, before `end`, whose set is inside a; the end where there is none.
+fn inside_at(w: &[u32], from: usize, end: usize, a: u32) -> usize
+    requires { ⌜ (from ≤ end) × (end ≤ length (now w)) ⌝ }
+    ensures { λ r. ⌜ InsideAt (now (w .entry)) from end a r ⌝ }
 {
-    let mut i: usize = 0;
-    while i < n {
-        let l = w[at + i];
+    let mut i = from;
+    while i < end {
+        let l = w[i];
         if l & a == l {
-            return true;
+            return i;
         }
         i += 1;
     }
-    false
+    end
 }
 
-// Whether a is closed and makes c true at d, by the table.
-fn passes(w: &[u32], d: u32, c: u32, a: u32) -> bool
-    requires { ⌜ (a < length (now w)) × (bitOr d a < length (now w)) ⌝ }
-    ensures { λ r. ⌜ r ≡ passesBy (now (w .entry)) d c a ⌝ }
+// A place from `first` on, before `end`, whose set is inside a, looked for from the hint on and then before it; the end where
+// there is none.
+fn inside_from(w: &[u32], first: usize, end: usize, hint: usize, a: u32) -> usize
+    requires { ⌜ (first ≤ hint) × (hint ≤ end) × (end ≤ length (now w)) ⌝ }
+    ensures { λ r. ⌜ InsideAt (now (w .entry)) first end a r ⌝ }
 {
-    let own = w[a as usize];
-    let joined = w[(d | a) as usize];
-    own == a && c & joined == c
+    let i = inside_at(w, hint, end, a);
+    if i < end {
+        return i;
+    }
+    let j = inside_at(w, first, hint, a);
+    if j < hint {
+        return j;
+    }
+    end
 }
 
-// 1 where a is a label, with those below it found already, n of them from `at` on; else 0.
-fn counts(w: &[u32], d: u32, c: u32, a: u32, at: usize, n: usize) -> usize
-    requires { ⌜ (a < length (now w)) × (bitOr d a < length (now w)) × (at + n ≤ length (now w)) ⌝ }
-    ensures { λ r. ⌜ (r ≡ cond (isNext (now (w .entry)) d c (take n (drop at (now (w .entry)))) a) 1 0) × (r ≤ 1) ⌝ }
+// The number at a place.
+fn number_at(w: &[u32], i: usize) -> usize
+    requires { ⌜ i < length (now w) ⌝ }
+    ensures { λ r. ⌜ r ≡ getD (now (w .entry)) i 0 ⌝ }
 {
-    if !passes(w, d, c, a) {
-        return 0;
-    }
-    if has_inside(w, at, n, a) {
-        return 0;
-    }
-    1
+    w[i] as usize
 }
 
-// Tries each set of the facts in ascending order: it is stored behind the labels found, and counted where it is one.
-fn scan_labels(w: &mut [u32], facts: u16, d: u32, c: u32, at: usize) -> usize
+// Whether the facts that v has outside d close to no more outside d, and v makes c true, by the table. v has all facts of d.
+fn passes(w: &[u32], d: usize, c: u32, v: usize) -> bool
+    requires { ⌜ (d ≤ v) × (v < length (now w)) ⌝ }
+    ensures { λ r. ⌜ r ≡ passesBy (now (w .entry)) d c v ⌝ }
+{
+    let own = number_at(w, v - d);
+    let joined = w[v];
+    d | own == v && c & joined == c
+}
+
+// Whether the closure of what v has outside d is a label, with those of lower v found already, n of them from `at` on. Sets that
+// follow one another often have the same label inside.
+fn try_set(w: &[u32], d: usize, c: u32, v: usize, at: usize, n: usize, hint: usize) -> Tried
+    requires { ⌜ (d ≤ v) × (v < length (now w)) × (at + n ≤ length (now w)) × (at ≤ hint) × (hint ≤ at + n) ⌝ }
+    ensures { λ r. ⌜ (r .count ≡ cond (isNext (now (w .entry)) d c (take n (drop at (now (w .entry)))) v) 1 0) × (r .count ≤ 1)
+        × (at ≤ r .hint) × (r .hint ≤ at + n) ⌝ }
+{
+    if !passes(w, d, c, v) {
+        return Tried { count: 0, hint };
+    }
+    let own = w[v - d];
+    let i = inside_from(w, at, at + n, hint, own);
+    if i < at + n {
+        return Tried { count: 0, hint: i };
+    }
+    Tried { count: 1, hint: i }
+}
+
+// Tries each set that has all facts of d, in ascending order: the closure of what it has outside d is stored behind the labels
+// found, and counted where it is one.
+fn scan_labels(w: &mut [u32], facts: u16, d: usize, c: u32, at: usize) -> usize
     requires { ⌜ LabelRoom facts d at (now w) ⌝ }
-    ensures { λ r. ⌜ LabelsAre (now (w .entry)) facts d c (take r (drop at (now (w .exit)))) × (r ≤ 2 ^ facts / 2 + 1)
+    ensures { λ r. ⌜ FoundBelow (now (w .entry)) facts d c (2 ^ facts) (take r (drop at (now (w .exit)))) × (r ≤ 2 ^ facts / 2 + 1)
         × SameOutside at (at + 2 ^ facts / 2 + 2) (now (w .entry)) (now (w .exit)) ⌝ }
 {
     let size = sets_of(facts);
     let mut n: usize = 0;
-    let mut a: usize = 0;
-    while a < size {
-        let k = counts(w, d, c, a as u32, at, n);
-        w[at + n] = a as u32;
-        n += k;
-        a += 1;
+    let mut hint = at;
+    let mut v: usize = d;
+    while v < size {
+        let t = try_set(w, d, c, v, at, n, hint);
+        w[at + n] = w[v - d];
+        n += t.count;
+        hint = t.hint;
+        v = d | (v + 1);
     }
     n
 }
@@ -101,15 +138,9 @@ pub fn labels_from(w: &mut [u32], facts: u16, d: u16, c: u16, at: usize) -> usiz
         w[at] = w[0];
         return 1;
     }
-    scan_labels(w, facts, d as u32, c as u32, at)
-}
-
-// The number at a place.
-fn number_at(w: &[u32], i: usize) -> usize
-    requires { ⌜ i < length (now w) ⌝ }
-    ensures { λ r. ⌜ r ≡ getD (now (w .entry)) i 0 ⌝ }
-{
-    w[i] as usize
+    let n = scan_labels(w, facts, d as usize, c as u32, at);
+    sort_numbers(w, at, at + n);
+    n
 }
 
 // The first of n entries that is for c, or n.
@@ -174,13 +205,21 @@ fn add_labels(w: &mut [u32], facts: u16, d: u16, c: u16, shelf: Shelf) -> Labell
     }
 }
 
-// The labels of an ask of c at store d: those of the entry for c, or found anew, with an entry for them.
+// What store d lacks of c.
+fn missing(d: u16, c: u16) -> u16
+    ensures { λ r. ⌜ r ≡ outside d c ⌝ }
+{
+    (d | c) - d
+}
+
+// The labels of an ask of c at store d: those of the entry for what d lacks of c, or found anew, with an entry for them.
 pub fn labels_at(w: &mut [u32], facts: u16, d: u16, c: u16, shelf: Shelf) -> Labelled
     requires { ⌜ ShelfRoom facts d (now w) × Shelved (now w) facts d shelf ⌝ }
     ensures { λ r. ⌜ Answered (now (w .entry)) facts d c r (now (w .exit)) ⌝ }
 {
+    let lacking = missing(d, c);
     let sets = shelf.sets;
-    let i = entry_of(w, sets, c);
+    let i = entry_of(w, sets, lacking);
     if i < sets {
         let at = HEADS + 3 * i;
         let first = number_at(w, at + 1);
@@ -192,5 +231,5 @@ pub fn labels_at(w: &mut [u32], facts: u16, d: u16, c: u16, shelf: Shelf) -> Lab
         };
     }
     let roomy = with_room(facts, shelf);
-    add_labels(w, facts, d, c, roomy)
+    add_labels(w, facts, d, lacking, roomy)
 }

@@ -3,21 +3,21 @@
 use mathlib.Core.Path.{_≡_, refl, sym, ap, ap₂, _∙_, subst}
 use mathlib.Core.Logic.{inl, inr, ⊎-elim}
 use mathlib.Core.Bool.{Bool, true, false, not}
-use mathlib.Core.List.{List, [], _∷_, _++_, map, map-append, List·Memᴰ, List·Memᴰ·head, List·Memᴰ·tail, List·Memᴰ·not-nil, List·Memᴰ·append-cases, List·Memᴰ·eq-of-singleton, Memᴰ·append-left}
+use mathlib.Core.List.{List, [], _∷_, _++_, map, map-append, List·Memᴰ, List·Memᴰ·head, List·Memᴰ·tail, List·Memᴰ·not-nil, List·Memᴰ·eq-of-singleton, Memᴰ·append-left}
 use Prim.Native.Nat.{ℕ, zero, suc, _+_, _%_, _^_, _≤_, _<_}
 use native.Mathlib.Omega.{arith}
 use lib.Pow.{pow-pos}
 use lib.ListN.{length, getD, length-take, length-map}
 use lib.Bits.{bitOr, or-lt}
 use borrow.Author.Tests.{leb-true, leb-false}
-use Rattle.lists.specs.Ascending.{NotFalling, sortUp, sortUp-only, sortUp-notFalling, sortUp-same}
+use Rattle.lists.specs.Ascending.{NotFalling, sortUp, sortUp-same}
 use Rattle.lists.specs.Frames.{outside-same}
 use Rattle.lists.specs.Members.{mem-map, map-mem}
 use Rattle.stores.specs.Stores.{conclusions, closure, join}
 use Rattle.stores.specs.StoreLaws.{closure-lt, join-right}
-use Rattle.sheets.specs.Sheet.{Node, stop, tell, ask, both, either, Configuration, Sheet, nodeOf, openingOf, openWithin, opened}
+use Rattle.sheets.specs.Sheet.{Node, tell, ask, Configuration, Sheet, nodeOf, opened}
 use Rattle.sheets.specs.WellFormed as well-formed
-use Rattle.sheets.specs.OpeningLaws.{LowerNames, Lower}
+use Rattle.sheets.specs.OpeningLaws.{Lower}
 use Rattle.moves.specs.Orders.{Move}
 use Rattle.moves.specs.Moves.{labels}
 use Rattle.moves.specs.LabelLaws.{label-constraint, label-below}
@@ -50,7 +50,8 @@ use Rattle.gathering.specs.Gathered.{Growth}
 use Rattle.gathering.specs.GatheredLaws.{move-threads-pass}
 use Rattle.walks.specs.declared.Basis.{Basis}
 use Rattle.walks.specs.declared.Walk.{Walk}
-use Rattle.walks.specs.Walking.{ThreadsFit, MemberFits, NodeFits, Walking, OnSheet, TurnOn, TurnOver}
+use Rattle.walks.specs.Walking.{MemberFits, NodeFits, Walking, OnSheet, TurnOn, TurnOver}
+use Rattle.walks.specs.PushedLaws.{threads-joined}
 use Rattle.walks.specs.NotedLaws.{NotedAll, AllPass, noted-next, noted-one, noted-none, pass-next, pass-one, noted-turn, noted-over, walkOn, reshelved, shelf-walking, shelf-turn, shelf-turn-over}
 use Rattle.leaf_visits.specs.Leaves.{tellMove, labelMove, labelMoves, LabelsStand}
 
@@ -264,39 +265,6 @@ module _ {b : Basis} {v : List ℕ} {s : Walk} (k : Walking v b s) {e : Configur
   tell-over n = noted-over (pass-one (k .collecting) n) nodes e (λ g o. tell-gives k fit low g o c l q)
 
 -- ---- an ask
--- no thread of a node has a higher number
-opened-within : (ns : List Node) → Lower ns → (f k : ℕ) {j : ℕ} → List·Memᴰ j (openWithin f ns k) → j ≤ k
-unfolding openWithin
-opened-within ns low zero k m = absurd (List·Memᴰ·not-nil m)
-opened-within ns low (suc f) k {j} m = go (λ i o. opened-within ns low f i o) (nodeOf ns k) (low .at k) m
-  where
-    here : List·Memᴰ j (k ∷ []) → j ≤ k
-    here o = let e : j ≡ k = List·Memᴰ·eq-of-singleton o in omega arith
-
-    go : ((i : ℕ) → List·Memᴰ j (openWithin f ns i) → j ≤ i) → (n : Node) → LowerNames k n
-        → List·Memᴰ j (openingOf (openWithin f ns) k n) → j ≤ k
-    go ih stop l o = absurd (List·Memᴰ·not-nil o)
-    go ih (tell c) l o = here o
-    go ih (ask c q) l o = here o
-    go ih (both p q) l o =
-        ⊎-elim (λ (a : List·Memᴰ j (openWithin f ns p)). omega (arith, ih p a, l .0))
-        (λ (a : List·Memᴰ j (openWithin f ns q)). omega (arith, ih q a, l .1))
-        (List·Memᴰ·append-cases (openWithin f ns p) o)
-    go ih (either p q) l o = here o
-
--- threads that fit, with those of a node of the sheet among them
-threads-joined : {b : Basis} {ts : List ℕ} (ns : List Node) → Lower ns → (k : ℕ) → k < b .nodes → ThreadsFit b ts
-    → length (opened ns k) + length ts ≤ b .caps .threads → ThreadsFit b (sortUp (opened ns k ++ ts))
-threads-joined {b} {ts} ns low k l fit few =
-    record {
-      few = omega (arith, sort-append-length (opened ns k) ts);
-      ascending = sortUp-notFalling (opened ns k ++ ts);
-      nodes = λ t m.
-          ⊎-elim (λ (o : List·Memᴰ t (opened ns k)). omega (arith, opened-within ns low (length ns) k o))
-          (λ (o : List·Memᴰ t ts). fit .nodes t o)
-          (List·Memᴰ·append-cases (opened ns k) (sortUp-only (opened ns k ++ ts) m));
-    }
-
 -- ---- the threads of the next node among those of e
 -- the places of threads that a struct has are eight
 pub eight-places : (ts : List ℕ) → length (map (λ (t : ℕ). t) ts) ≡ 8 → length ts ≡ 8

@@ -5,4 +5,5 @@ pub mod Shapes
 pub mod Looking
 pub mod Forgetting
 pub mod LinedMembers
+pub mod SettledMoves
 pub mod LinedSets

@@ -113,6 +113,21 @@ module _ (sheet : Sheet) (set : List Configuration) (numbers : List ℕ) (p : Co
       (L .has (y .0) (omega (arith, y .1))
       (subst (λ (k : Move). redundant sheet set numbers p k ≡ false) (y .2) (x .2))))
 
+  -- the lines are those after the last move
+  pub so-far-lines : (j : ℕ) → length (moves sheet p) ≡ j → LinesSoFar sheet set numbers p j (linesOf sheet set numbers p)
+  so-far-lines j e = record {
+    ascends = lines-ascend sheet set numbers p;
+    has = λ t h f. line-in sheet set numbers p (moveOf sheet p t) (getD-in (moves sheet p) t noMove (omega arith)) f;
+    only = λ l m.
+        let x = line-only sheet set numbers p l m in
+        let y = place-of (moves sheet p) (x .0) (x .1) in (
+          y .0,
+          omega (arith, y .1),
+          subst (λ (k : Move). redundant sheet set numbers p k ≡ false) (y .2) (x .2),
+          x .3 ∙ ap (lineOf sheet set numbers) (y .2),
+        );
+  }
+
 -- ---- one move
 -- the move at place j was judged and its line put in: the lines end at r in v
 pub record LineMoved (w : List ℕ) (n first total j end : ℕ) (v : List ℕ) (r : ℕ) : Type 0 where

@@ -1,5 +1,5 @@
 -- The lines of every member of the set.
-use mathlib.Core.Path.{_≡_, sym, ap, ap₂, _∙_, subst}
+use mathlib.Core.Path.{_≡_, refl, sym, ap, ap₂, _∙_, subst}
 use mathlib.Core.Logic.{_⊎_, inl, inr}
 use mathlib.Core.List.{List}
 use Prim.Native.Nat.{ℕ, _+_, _-_, _≤_, _<_}
@@ -14,10 +14,11 @@ use Rattle.sheets.specs.Sheet.{Configuration, Sheet}
 use Rattle.held_set.specs.HeldSet.{memberAt, firstMove, moveTotal, SetHeld}
 use Rattle.splitting.specs.MemberLines.{linesOf}
 use Rattle.splitting.specs.HeldRounds.{dominatorsAt, lineTotalsAt, linesAt, SameSet, held-member-same, held-first-same, held-total-same}
-use Rattle.lining.specs.KeptMoves.{MoveKept, DominatorsKept, RoundHeld}
+use Rattle.lining.specs.KeptMoves.{MoveKept, DominatorsKept, RoundHeld, MemberHeld}
 use Rattle.lining.specs.Shapes.{KeptFits, SpanFits, Shape, LinedOnly, lined-none, lined-then, member-lined, lined-set}
-use Rattle.lining.specs.Shapes.{lined-first, lined-total, lined-round, lined-fits}
+use Rattle.lining.specs.Shapes.{lined-class, lined-first, lined-total, lined-round, lined-fits}
 use Rattle.lining.specs.LinedMembers.{lineTotal, MemberDone}
+use Rattle.lining.specs.SettledMoves.{Unchanged, SplitFrom, settled-lines}
 
 -- the lines of the member at place i stand in the slice
 pub record MemberLined (sheet : Sheet) (set : List Configuration) (numbers w : List ℕ) (i : ℕ) : Type 0 where
@@ -39,22 +40,106 @@ lines-same sheet set v w n m numbers H S f g i l L =
           ∙ L .lines ∙ ap (linesOf sheet set numbers) (sym (held-member-same sheet set v w n m H S i l));
     }
 
--- v has the lines of the first k members of w, and beside these and the kept moves w's numbers
-pub record SetLined (w : List ℕ) (n k : ℕ) (v : List ℕ) : Type 0 where
+-- The slice has the lines of every member by the numbers `before`, from which the present ones came by splitting.
+pub record LinedBefore (sheet : Sheet) (set : List Configuration) (numbers w : List ℕ) (n old : ℕ) : Type 0 where
+  pub before : List ℕ
+  pub from : SplitFrom set before numbers w n old
+  pub kept : DominatorsKept sheet set w n before
+  pub lined : (i : ℕ) → i < n → MemberLined sheet set before w i
+
+-- what is kept for the member at place i, and its lines, stand in v as in w
+pub record MemberLeft (w : List ℕ) (i : ℕ) (v : List ℕ) : Type 0 where
+  pub kept : (j : ℕ) → j < moveTotal w i → getD v (dominatorsAt + firstMove w i + j) 0 ≡ getD w (dominatorsAt + firstMove w i + j) 0
+  pub total : lineTotal v i ≡ lineTotal w i
+  pub lines : (e : ℕ) → linesAt + firstMove w i ≤ e → e < linesAt + firstMove w i + moveTotal w i → getD v e 0 ≡ getD w e 0
+
+-- v has the lines of the first k members of w, and beside these and the kept moves w's numbers; where there were classes before,
+-- `old` of them, w has the lines in these
+pub record SetLined (w : List ℕ) (n old k : ℕ) (v : List ℕ) : Type 0 where
   pub only : LinedOnly w v
   pub shape : Shape v n
   pub lines : (sheet : Sheet) (set : List Configuration) (numbers : List ℕ) (m r : ℕ) → RoundHeld sheet set numbers w n m r
-      → DominatorsKept sheet set w n numbers
+      → DominatorsKept sheet set w n numbers → (0 < old → LinedBefore sheet set numbers w n old)
       → DominatorsKept sheet set v n numbers × ((i : ℕ) → i < k → MemberLined sheet set numbers v i)
+      × ((i : ℕ) → k ≤ i → i < n → MemberLeft w i v)
 
-pub set-lined-first : (w : List ℕ) (n : ℕ) → Shape w n → SetLined w n 0 w
-set-lined-first w n S = record {
+pub set-lined-first : (w : List ℕ) (n old : ℕ) → Shape w n → SetLined w n old 0 w
+set-lined-first w n old S = record {
   only = lined-none w;
   shape = S;
-  lines = λ sheet set numbers m r R D. (D, (λ i h. absurd (omega arith)));
+  lines = λ sheet set numbers m r R D B. (
+    D,
+    (λ i h. absurd (omega arith)),
+    (λ i h l. record { kept = λ j b. refl; total = refl; lines = λ e a b. refl }),
+  );
 }
 
-module _ (w : List ℕ) (n k : ℕ) (v : List ℕ) (S : SetLined w n k v) (h : k < n) (u : List ℕ) (D : MemberDone v n k u) where
+-- the member at place k was left as it is
+module _ (w : List ℕ) (n old k : ℕ) (v : List ℕ) (S : SetLined w n old k v) (h : k < n) (U : Unchanged v k old) where
+  module _ (sheet : Sheet) (set : List Configuration) (numbers : List ℕ) (m r : ℕ) (R : RoundHeld sheet set numbers w n m r)
+      (B : LinedBefore sheet set numbers w n old) (K : DominatorsKept sheet set v n numbers) (E : MemberLeft w k v) where
+    small-place : k < 512
+    small-place = omega (arith, S .shape .few)
+
+    first-same : firstMove v k ≡ firstMove w k
+    first-same = lined-first (S .only) k small-place
+
+    total-same : moveTotal v k ≡ moveTotal w k
+    total-same = lined-total (S .only) k small-place
+
+    same-member : memberAt v k ≡ memberAt w k
+    same-member = held-member-same sheet set w v n m (R .held) (lined-set (S .only)) k h
+
+    there : MemberHeld sheet set numbers (memberAt v k) v n m r k (firstMove v k) (moveTotal v k)
+    there = record { round = lined-round (S .only) R; inside = h; member-is = refl; first-is = refl; total-is = refl }
+
+    came : SplitFrom set (B .before) numbers v n old
+    came = record {
+      finer = B .from .finer;
+      same = λ i l c.
+          let e = lined-class (S .only) i (omega (arith, S .shape .few)) in
+          B .from .same i l (omega arith) ∙ sym e;
+    }
+
+    kept-before : (j : ℕ) → j < moveTotal v k → MoveKept sheet set (B .before) (memberAt v k) j (getD v (dominatorsAt + firstMove v k + j) 0)
+    kept-before j b =
+        let c : j < moveTotal w k = omega (arith, total-same) in
+        subst (λ (p : Configuration). MoveKept sheet set (B .before) p j (getD v (dominatorsAt + firstMove v k + j) 0)) (sym same-member)
+        (subst (λ (a : ℕ). MoveKept sheet set (B .before) (memberAt w k) j (getD v (dominatorsAt + a + j) 0)) (sym first-same)
+        (subst (MoveKept sheet set (B .before) (memberAt w k) j) (sym (E .kept j c)) (B .kept .at k j h c)))
+
+    left-lined : MemberLined sheet set numbers v k
+    left-lined =
+        let x = B .lined k h in
+        record {
+          few = omega (arith, x .few, E .total, total-same);
+          lines = ap₂ (λ (a s : ℕ). numbersIn v (linesAt + a) (linesAt + a + s)) first-same (E .total)
+              ∙ numbers-same w v (linesAt + firstMove w k) (linesAt + firstMove w k + lineTotal w k) (S .only .long)
+              (λ e a q. E .lines e a (omega (arith, x .few)))
+              ∙ x .lines ∙ ap (linesOf sheet set (B .before)) (sym same-member)
+              ∙ settled-lines there (B .before) old came (λ j b. K .at k j h b) kept-before (U .settled);
+        }
+
+  pub set-lined-left : SetLined w n old (k + 1) v
+  set-lined-left = record {
+    only = S .only;
+    shape = S .shape;
+    lines = λ sheet set numbers m r R K B.
+        let x = S .lines sheet set numbers m r R K B in (
+          x .0,
+          (λ i l. go sheet set numbers (x .1)
+              (left-lined sheet set numbers m r R (B (U .later)) (x .0) (x .2 k (omega arith) h)) i l (tested (eqb k i))),
+          (λ i a l. x .2 i (omega arith) l),
+        );
+  }
+    where
+      go : (sheet : Sheet) (set : List Configuration) (numbers : List ℕ) → ((i : ℕ) → i < k → MemberLined sheet set numbers v i)
+          → MemberLined sheet set numbers v k → (i : ℕ) → i < k + 1 → Tested (eqb k i) → MemberLined sheet set numbers v i
+      go sheet set numbers f g i l (passes e) = subst (MemberLined sheet set numbers v) (eqb-true k i e) g
+      go sheet set numbers f g i l (fails e) = f i (omega (arith, eqb-false k i e))
+
+-- its lines were worked out
+module _ (w : List ℕ) (n old k : ℕ) (v : List ℕ) (S : SetLined w n old k v) (h : k < n) (u : List ℕ) (D : MemberDone v n k u) where
   abbrev f : ℕ → ℕ
   f i = firstMove v i
 
@@ -166,12 +251,41 @@ module _ (w : List ℕ) (n k : ℕ) (v : List ℕ) (S : SetLined w n k v) (h : k
                   ∙ x .lines ∙ ap (linesOf sheet set numbers) (sym (member i c));
             }
 
-  pub set-lined-next : SetLined w n (k + 1) u
+    -- those behind it are left as they are
+    next-left : ((i : ℕ) → k ≤ i → i < n → MemberLeft w i v) → (i : ℕ) → k + 1 ≤ i → i < n → MemberLeft w i u
+    next-left E i a l =
+        let b : k ≤ i = omega arith in
+        let d : k ≡ i → ⊥ = λ (e : k ≡ i). omega arith in
+        let x = E i b l in
+        let ef : firstMove v i ≡ firstMove w i = lined-first (S .only) i (small i l) in
+        let et : moveTotal v i ≡ moveTotal w i = lined-total (S .only) i (small i l) in
+        record {
+          kept = λ j c.
+              subst (λ (z : ℕ). getD u (dominatorsAt + z + j) 0 ≡ getD v (dominatorsAt + z + j) 0) ef (low i l d j (omega arith))
+              ∙ x .kept j c;
+          total = D .only .between (lineTotalsAt + i) (λ q. d (omega arith)) (omega (arith, fit k h .span)) (omega (arith, small i l))
+              ∙ x .total;
+          lines = λ e c q. high i l d e (omega arith) (omega arith) ∙ x .lines e c q;
+        }
+
+  pub set-lined-next : SetLined w n old (k + 1) u
   set-lined-next = record {
     only = lined-then (S .only) o;
     shape = next-shape;
-    lines = λ sheet set numbers m r R K.
-        let x = S .lines sheet set numbers m r R K in
-        let held = lined-round (S .only) R in
-        (next-kept sheet set numbers m r held (x .0) (x .1), next-lined sheet set numbers m r held (x .0) (x .1));
+    lines = λ sheet set numbers m r R K B.
+        let x = S .lines sheet set numbers m r R K B in
+        let held = lined-round (S .only) R in (
+          next-kept sheet set numbers m r held (x .0) (x .1),
+          next-lined sheet set numbers m r held (x .0) (x .1),
+          next-left sheet set numbers m r held (x .0) (x .1) (x .2),
+        );
   }
+
+-- the lines of the member at place i were worked out, or left where none of them can have changed
+abbrev pub Renewed : List ℕ → ℕ → ℕ → ℕ → List ℕ → Type 0
+Renewed w n i old v = ((v ≡ w) × Unchanged w i old) ⊎ MemberDone w n i v
+
+pub set-lined-more : (w : List ℕ) (n old k : ℕ) (v : List ℕ) → SetLined w n old k v → k < n → (u : List ℕ) → Renewed v n k old u
+    → SetLined w n old (k + 1) u
+set-lined-more w n old k v S h u (inl x) = subst (SetLined w n old (k + 1)) (sym (x .0)) (set-lined-left w n old k v S h (x .1))
+set-lined-more w n old k v S h u (inr D) = set-lined-next w n old k v S h u D

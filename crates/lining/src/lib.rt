@@ -6,8 +6,8 @@ use work_places::MEMBERS;
 use work_places::MOVES;
 use work_places::SPANS;
 ghost use mathlib.Core.Path.{_≡_};
-ghost use mathlib.Core.Bool.{_&&_, not};
-ghost use Prim.Native.Nat.{_+_, _/_, _%_, _≤_, _<_};
+ghost use mathlib.Core.Bool.{true, _&&_, not};
+ghost use Prim.Native.Nat.{ℕ, _+_, _/_, _%_, _≤_, _<_};
 ghost use lib.ListN.{length};
 ghost use lib.Dec.{eqb};
 ghost use Rattle.stores.specs.Stores.{strictlyBelow, includes};
@@ -22,7 +22,8 @@ ghost use Rattle.lining.specs.Shapes.{KeptFits, SpanFits, Shape};
 ghost use Rattle.lining.specs.Looking.{DominatedBy, LookedFrom, Judged};
 ghost use Rattle.lining.specs.Forgetting.{Forgotten};
 ghost use Rattle.lining.specs.LinedMembers.{LineMoved, MemberDone};
-ghost use Rattle.lining.specs.LinedSets.{SetLined};
+ghost use Rattle.lining.specs.SettledMoves.{keptAt, targetAt, Settled, Unchanged};
+ghost use Rattle.lining.specs.LinedSets.{Renewed, SetLined};
 
 // Where the kept dominating moves, the numbers of lines, the classes and the lines stand in the work slice.
 pub const DOMINATORS: usize = 0;
@@ -246,14 +247,59 @@ fn line_member(w: &mut [u32], n: usize, i: usize)
     w[LINE_TOTALS + i] = (end - begin) as u32;
 }
 
-// The lines of every member.
-pub fn line_all(w: &mut [u32], n: usize)
+// Whether the move at place j has the line it had, or none as it had none, when there were `old` classes.
+fn settled(w: &[u32], first: usize, j: usize, old: usize) -> bool
+    requires { ⌜ (first + j < 4096) × KeptFits (keptAt (now w) first j) × (targetAt (now w) first j ≤ 512) × (workEnd ≤ length (now w)) ⌝ }
+    ensures { λ r. ⌜ (r ≡ true → Settled (now (w .entry)) first j old) ⌝ }
+{
+    let kept = w[DOMINATORS + first + j];
+    let t = (w[MOVES + first + j] % 65536) as usize;
+    if kept == (j as u32) * 65536 + NONE {
+        return (class_at(w, t) as usize) < old;
+    }
+    still_dominated(w, kept, t)
+}
+
+// Whether the member at place i has the lines it had when there were `old` classes.
+fn unchanged(w: &[u32], i: usize, old: usize) -> bool
+    requires { ⌜ ((n : ℕ) × Shape (now w) n × (i < n)) ⌝ }
+    ensures { λ r. ⌜ (r ≡ true → Unchanged (now (w .entry)) i old) ⌝ }
+{
+    if old == 0 {
+        return false;
+    }
+    let first = first_move(w, i);
+    let total = move_total(w, i);
+    let mut k: usize = 0;
+    while k < total {
+        if !settled(w, first, k, old) {
+            return false;
+        }
+        k += 1;
+    }
+    true
+}
+
+// The lines of the member at place i, left as they stand where they are unchanged.
+fn renew_member(w: &mut [u32], n: usize, i: usize, old: usize)
+    requires { ⌜ Shape (now w) n × (i < n) ⌝ }
+    ensures { λ _. ⌜ Renewed (now (w .entry)) n i old (now (w .exit)) ⌝ }
+{
+    if unchanged(w, i, old) {
+        return;
+    }
+    line_member(w, n, i);
+}
+
+// The lines of every member, where those of the round before stand in the slice and there were `old` classes then; 0 where none
+// were worked out yet.
+pub fn line_all(w: &mut [u32], n: usize, old: usize)
     requires { ⌜ Shape (now w) n ⌝ }
-    ensures { λ _. ⌜ SetLined (now (w .entry)) n n (now (w .exit)) ⌝ }
+    ensures { λ _. ⌜ SetLined (now (w .entry)) n old n (now (w .exit)) ⌝ }
 {
     let mut i: usize = 0;
     while i < n {
-        line_member(w, n, i);
+        renew_member(w, n, i, old);
         i += 1;
     }
 }

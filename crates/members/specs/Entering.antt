@@ -6,7 +6,7 @@ use mathlib.Core.List.{List, List·Memᴰ}
 use Prim.Native.Nat.{ℕ, _+_, _*_, _-_, _≤_, _<_}
 use native.Mathlib.Omega.{arith}
 use lib.ListN.{length, getD, set, drop, length-set}
-use lib.Seq.{getD-set-same, getD-set-other, drop-set-lt, drop-drop}
+use lib.Seq.{getD-set-same, getD-set-other, drop-set-lt}
 use lib.Dec.{ltb}
 use borrow.Author.Tests.{ltb-true, ltb-false}
 use Rattle.lists.specs.Tables.{tabulate-same}
@@ -19,7 +19,8 @@ use Rattle.packing.specs.declared.Numbers.{Numbers}
 use Rattle.packing.specs.Packing.{unpacked, standsFor, PackedIn}
 use Rattle.members.specs.Layout.{numbersIn, memberIn, idIn, placedIn, membersIn, orderedIn, Kept}
 use Rattle.members.specs.Searching.{Placed}
-use Rattle.members.specs.Raising.{Raised}
+use Rattle.number_lists.specs.NumberLists.{Raised}
+use Rattle.number_lists.specs.Placing.{raised-behind}
 use Rattle.members.specs.MemberLaws.{ordered-in}
 use Rattle.members.specs.Entry.{EnteredIn}
 
@@ -84,10 +85,7 @@ put-in v u n at x r h k l =
       keys = λ i m. key-other t n x i (inl m) ∙ getD-set-other u (1536 + at) i n 0 (omega arith) ∙ r .low i (omega arith);
       key = key-same t n x (omega arith);
       rest =
-          let q : 2048 ≡ 1536 + n + 1 + (511 - n) = omega arith in
-          key-rest t n x 2048 (omega arith) ∙ drop-set-lt 2048 u (1536 + at) n (omega arith)
-          ∙ ap (λ (z : ℕ). drop z u) q ∙ sym (drop-drop (511 - n) (1536 + n + 1) u) ∙ ap (drop (511 - n)) (r .rest)
-          ∙ drop-drop (511 - n) (1536 + n + 1) v ∙ ap (λ (z : ℕ). drop z v) (sym q);
+          key-rest t n x 2048 (omega arith) ∙ drop-set-lt 2048 u (1536 + at) n (omega arith) ∙ raised-behind r 2048 (omega arith);
       long = key-long t n x ∙ s;
     }
 

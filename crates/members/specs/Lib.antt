@@ -2,6 +2,5 @@ pub mod Layout
 pub mod Entry
 pub mod MemberLaws
 pub mod Searching
-pub mod Raising
 pub mod Entering
 pub mod Part

@@ -14,6 +14,7 @@ use Rattle.stores.specs.StoreLaws.{join-left, join-right, join-least, join-clos
 use Rattle.sheets.specs.Sheet.{Node, stop, tell, ask, both, either, Configuration, Sheet, nodeOf, opened}
 use Rattle.moves.specs.Orders.{Move, moveOrder}
 use Rattle.moves.specs.Moves.{Step, labels, beside, stepsOf, stepsWithin, steps, moveOf, movesFrom, moves, Moves, Reduces, add}
+use Rattle.moves.specs.NodeParts.{both-has-first, both-has-second, both-has-only, either-has-first, either-has-second, either-has-only}
 use Rattle.moves.specs.LabelLaws.{label-constraint, label-makes-true, label-below, label-least, least-constraint}
 
 -- ---- from a step at store d to one at store e
@@ -71,17 +72,17 @@ module _ (sheet : Sheet) (d e : ℕ) (Good : ℕ → ℕ → Type 0) (Partner : 
       go ih (both p r) q x =
           ⊎-elim
           (λ (y : List·Memᴰ m (map (beside (opened (sheet .nodes) r)) (stepsWithin n sheet d p))).
-          found-more (λ t z. Memᴰ·append-left (map (beside (opened (sheet .nodes) p)) (stepsWithin n sheet e r)) z)
+          found-more (λ t z. both-has-first sheet e (stepsWithin n sheet e) p r z)
           (found-beside (opened (sheet .nodes) r) (stepsWithin n sheet d p) (stepsWithin n sheet e p) (ih p) y g))
           (λ (y : List·Memᴰ m (map (beside (opened (sheet .nodes) p)) (stepsWithin n sheet d r))).
-          found-more (λ t z. Memᴰ·append-right (map (beside (opened (sheet .nodes) r)) (stepsWithin n sheet e p)) z)
+          found-more (λ t z. both-has-second sheet e (stepsWithin n sheet e) p r z)
           (found-beside (opened (sheet .nodes) p) (stepsWithin n sheet d r) (stepsWithin n sheet e r) (ih r) y g))
-          (List·Memᴰ·append-cases (map (beside (opened (sheet .nodes) r)) (stepsWithin n sheet d p)) x)
+          (both-has-only sheet d (stepsWithin n sheet d) p r x)
       go ih (either p r) q x =
           ⊎-elim
-          (λ (y : List·Memᴰ m (stepsWithin n sheet d p)). found-more (λ t z. Memᴰ·append-left (stepsWithin n sheet e r) z) (ih p m y g))
-          (λ (y : List·Memᴰ m (stepsWithin n sheet d r)). found-more (λ t z. Memᴰ·append-right (stepsWithin n sheet e p) z) (ih r m y g))
-          (List·Memᴰ·append-cases (stepsWithin n sheet d p) x)
+          (λ (y : List·Memᴰ m (stepsWithin n sheet d p)). found-more (λ t z. either-has-first sheet e (stepsWithin n sheet e) p r z) (ih p m y g))
+          (λ (y : List·Memᴰ m (stepsWithin n sheet d r)). found-more (λ t z. either-has-second sheet e (stepsWithin n sheet e) p r z) (ih r m y g))
+          (either-has-only sheet d (stepsWithin n sheet d) p r x)
 
   -- the same for moves: one thread's step, the rest as before
   carry-from : (passed ts : List ℕ) {m : Move} → List·Memᴰ m (movesFrom sheet d passed ts) → Good (m .label) (m .target .store)

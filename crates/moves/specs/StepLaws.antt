@@ -1,13 +1,13 @@
 -- No step and no thread is lost by a bound on how deep nodes lie inside each other: on a sheet whose both and either name
 -- lower nodes, what a node opens to and its steps are those that its kind says, made from its parts.
-use mathlib.Core.Path.{_≡_, refl, ap₂, _∙_}
-use mathlib.Core.List.{List, _++_, map}
+use mathlib.Core.Path.{_≡_, refl, _∙_}
+use mathlib.Core.List.{List}
 use Prim.Native.Nat.{ℕ, zero, suc, _<_}
 use native.Mathlib.Omega.{arith}
 use lib.ListN.{length}
 use Rattle.sheets.specs.Sheet.{Node, stop, tell, ask, both, either, Sheet, nodeOf, openingOf, openWithin, opened}
 use Rattle.sheets.specs.OpeningLaws.{LowerNames, Lower, opening-enough}
-use Rattle.moves.specs.Moves.{Step, beside, stepsOf, stepsWithin, steps}
+use Rattle.moves.specs.Moves.{Step, stepsOf, stepsWithin, steps}
 
 opening-step : (ns : List Node) (n k : ℕ) → openWithin (suc n) ns k ≡ openingOf (openWithin n ns) k (nodeOf ns k)
 unfolding openWithin
@@ -25,8 +25,13 @@ module _ (sheet : Sheet) (d : ℕ) where
   steps-same inner other k (tell c) l h = refl
   steps-same inner other k (ask c q) l h = refl
   steps-same inner other k (both p q) l h =
-      ap₂ (λ (a b : List Step). map (beside (opened (sheet .nodes) q)) a ++ map (beside (opened (sheet .nodes) p)) b) (h p (l .0)) (h q (l .1))
-  steps-same inner other k (either p q) l h = ap₂ (λ (a b : List Step). a ++ b) (h p (l .0)) (h q (l .1))
+      let first : inner p ≡ other p = h p (l .0) in
+      let second : inner q ≡ other q = h q (l .1) in
+      cc
+  steps-same inner other k (either p q) l h =
+      let first : inner p ≡ other p = h p (l .0) in
+      let second : inner q ≡ other q = h q (l .1) in
+      cc
 
   -- any number of nodes above k will do
   steps-enough : Lower (sheet .nodes) → (f g k : ℕ) → k < f → k < g → stepsWithin f sheet d k ≡ stepsWithin g sheet d k

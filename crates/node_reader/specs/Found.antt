@@ -1,19 +1,19 @@
 -- What the readers of nodes find.
 use mathlib.Core.Path.{_≡_, sym, ap, _∙_}
 use mathlib.Core.List.{List}
-use Prim.Native.Nat.{ℕ, _+_, _≤_}
+use Prim.Native.Nat.{ℕ, _≤_}
 use native.Mathlib.Omega.{arith}
 use lib.ListN.{length, set}
 use Rattle.stores.specs.Stores.{Rule}
 use Rattle.sheets.specs.Limits.{minNodes, maxNodes}
 use Rattle.sheets.specs.Sheet.{Node}
-use Rattle.sheets.specs.Reading.{Reading, got, refused, maxKind, nodeFrom, nodeAt}
+use Rattle.sheets.specs.Reading.{Reading, got, refused, maxKind, nodeFrom}
 use Rattle.sheets.specs.NodeFields.{nodeFieldsAt}
-use Rattle.sheets.specs.RecordLaws.{oneMore}
 use Rattle.held.specs.Held.{nodeHeld, nodeRead, nodesRead, nodesIn, answerWith}
 use Rattle.held.specs.AnswerLaws.{refused-with, refused-never}
 use Rattle.held.specs.declared.Section.the-variants.{Got, Refused}
 use Rattle.held.specs.declared.Nodes.{Nodes}
+use Rattle.held.specs.declared.Opened.{Opened}
 use Rattle.held.specs.declared.NodeRead.{NodeRead}
 use Rattle.held.specs.declared.NodesRead.{NodesRead}
 use Rattle.opening.specs.Table.{OpenedTable}
@@ -24,6 +24,18 @@ pub record NodeFound (facts : ℕ) (rules : List Rule) (nodes number : ℕ) (s :
   pub reading : nodeRead r ≡ nodeFieldsAt facts rules nodes number s at
   pub kind : (k next : ℕ) → r .answer ≡ Got k next → k ≤ maxKind
 
+-- the nodes in three arrays
+abbrev pub nodesOf : List ℕ → List ℕ → List ℕ → Nodes
+nodesOf kinds firsts seconds = record { kinds = kinds; firsts = firsts; seconds = seconds }
+
+-- the arrays have a place for each node, and eight for its threads
+pub record Room (nodes : Nodes) (o : Opened) : Type 0 where
+  pub kinds : length (nodes .kinds) ≡ maxNodes
+  pub firsts : length (nodes .firsts) ≡ maxNodes
+  pub seconds : length (nodes .seconds) ≡ maxNodes
+  pub counts : length (o .counts) ≡ 64
+  pub threads : length (o .threads) ≡ 512
+
 -- the nodes with one more
 abbrev pub withNode : Nodes → ℕ → ℕ → ℕ → ℕ → Nodes
 withNode ns k kind first second = record { kinds = set (ns .kinds) k kind; firsts = set (ns .firsts) k first; seconds = set (ns .seconds) k second }
@@ -33,12 +45,8 @@ pub record NodesHeld (s : List ℕ) (r : NodesRead) (n next : ℕ) : Type 0 wher
   pub within : next ≤ length s
   pub some : minNodes ≤ n
   pub few : n ≤ maxNodes
+  pub room : length (r .opened .threads) ≡ 512
   pub table : OpenedTable (nodesIn (r .nodes) n) (r .opened)
-
--- one node after those that were read
-pub record NextFound (facts : ℕ) (rules : List Rule) (nodes : ℕ) (s : List ℕ) (read : List Node) (i at : ℕ) (r : NodesRead) : Type 0 where
-  pub reading : nodesRead r ≡ oneMore (nodeAt facts rules nodes s) read at
-  pub held : (k next : ℕ) → r .answer ≡ Got k next → (k ≡ i + 1) × NodesHeld s r k next
 
 -- all nodes
 pub record NodesFound (m : Reading (List Node)) (s : List ℕ) (r : NodesRead) : Type 0 where

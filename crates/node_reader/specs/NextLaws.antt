@@ -1,11 +1,11 @@
 -- One node after those that were read: refused in its fields, refused for its threads, or read, with its threads in the table.
-use mathlib.Core.Path.{_≡_, refl, sym, ap, _∙_, subst}
+use mathlib.Core.Path.{_≡_, sym, ap, _∙_, subst}
 use mathlib.Core.Bool.{true, false}
 use mathlib.Core.List.{List, [], _∷_, _++_}
-use Prim.Native.Nat.{ℕ, _+_, _≤_, _<_}
+use Prim.Native.Nat.{ℕ, _+_, _*_, _≤_, _<_}
 use native.Mathlib.Omega.{arith}
-use lib.ListN.{length}
-use lib.Seq.{getD-set-same, getD-set-other}
+use lib.ListN.{length, length-set}
+use lib.Seq.{getD-set-same, getD-set-other, length-sets}
 use lib.Dec.{ltb}
 use borrow.Author.Tests.{lt-ltb, le-ltb}
 use Rattle.lists.specs.Tables.{tabulate-next, tabulate-same, tabulate-length}
@@ -17,14 +17,13 @@ use Rattle.sheets.specs.OpeningLaws.{LowerNames}
 use Rattle.sheets.specs.NodeFields.{nodeFieldsAt, opensToMany, node-checked}
 use Rattle.sheets.specs.SectionLaws.{node-fields-lower}
 use Rattle.held.specs.Held.{nodeHeld, nodeIn, nodesIn, answerWith}
-use Rattle.held.specs.AnswerLaws.{refused-with, refused-never}
+use Rattle.held.specs.AnswerLaws.{refused-with}
 use Rattle.held.specs.declared.Section.the-variants.{Got, Refused}
 use Rattle.held.specs.declared.Nodes.{Nodes}
 use Rattle.held.specs.declared.Opened.{Opened}
 use Rattle.held.specs.declared.NodeRead.{NodeRead}
-use Rattle.opening.specs.declared.OpenedNode.{OpenedNode}
-use Rattle.opening.specs.Table.{OpenedTable, threadsOf, holding, openNode, table-threads, table-next}
-use Rattle.node_reader.specs.Found.{NodeFound, NextFound, NodesHeld, withNode}
+use Rattle.opening.specs.Table.{OpenedTable, OpenedNode, threadsOf, holding, openNode, table-threads, table-next}
+use Rattle.node_reader.specs.Found.{NodeFound, Room, withNode}
 
 -- the nodes with one more are those before, and that one
 pub nodes-with : (ns : Nodes) (i kind first second : ℕ) → i < length (ns .kinds) → i < length (ns .firsts) → i < length (ns .seconds)
@@ -37,6 +36,15 @@ nodes-with ns i kind first second a b c =
     ∙ ap (λ (l : List Node). l ++ (nodeIn with i ∷ [])) (tabulate-same (nodeIn with) (nodeIn ns) i (λ j l.
     rw (getD-set-other (ns .kinds) i j kind 0 (omega arith), getD-set-other (ns .firsts) i j first 0 (omega arith), getD-set-other (ns .seconds) i j second 0 (omega arith))))
     ∙ ap (λ (x : Node). nodesIn ns i ++ (x ∷ [])) last
+
+-- one node more is read up to `next`: the nodes and the table have it
+pub record NextNode (facts : ℕ) (rules : List Rule) (n : ℕ) (s : List ℕ) (before : Nodes) (i at : ℕ) (after : Nodes) (o : Opened) (next : ℕ) : Type 0 where
+  pub node : Node
+  pub reading : nodeAt facts rules n s (nodesIn before i) at ≡ got node next
+  pub nodes : nodesIn after (i + 1) ≡ nodesIn before i ++ (node ∷ [])
+  pub table : OpenedTable (nodesIn after (i + 1)) o
+  pub room : Room after o
+  pub within : next ≤ length s
 
 module _ (facts : ℕ) (rules : List Rule) (n : ℕ) (s : List ℕ) (nodes : Nodes) (o : Opened) (i at : ℕ) (table : OpenedTable (nodesIn nodes i) o)
     (r : NodeRead) (found : NodeFound facts rules n i s at r) where
@@ -53,15 +61,11 @@ module _ (facts : ℕ) (rules : List Rule) (n : ℕ) (s : List ℕ) (nodes : Nod
       node-checked facts rules n s (nodesIn nodes i) at
       ∙ ap (λ (k : ℕ). andThen (nodeFieldsAt facts rules n k s at) (λ x next. refusedIf (opensToMany (nodesIn nodes i) x) 15 at (got x next))) long
 
-  pub next-refused : {number place : ℕ} → r .answer ≡ Refused number place
-      → NextFound facts rules n s (nodesIn nodes i) i at (record { answer = r .answer; nodes = nodes; opened = o })
+  pub next-refused : {number place : ℕ} → r .answer ≡ Refused number place → nodeAt facts rules n s (nodesIn nodes i) at ≡ refused number place
   next-refused {number} {place} a =
       let fields : nodeFieldsAt facts rules n i s at ≡ refused number place =
       sym (found .reading) ∙ refused-with (λ k. nodeHeld k (r .first) (r .second)) a in
-      record {
-        reading = refused-with (nodesIn nodes) a ∙ sym (rw (checked, fields));
-        held = λ k next g. refused-never a g;
-      }
+      rw (checked, fields)
 
   module _ {kind next : ℕ} (a : r .answer ≡ Got kind next) where
     pub next-fits : LowerNames i (nodeHeld kind (r .first) (r .second)) × (next ≤ length s)
@@ -83,15 +87,13 @@ module _ (facts : ℕ) (rules : List Rule) (n : ℕ) (s : List ℕ) (nodes : Nod
       count : b .count ≡ length (threadsOf o i (nodeHeld kind (r .first) (r .second)))
       count = ap (λ (x : OpenedNode). x .count) e
 
-      pub next-many : maxThreads < b .count
-          → NextFound facts rules n s (nodesIn nodes i) i at (record { answer = Refused 15 at; nodes = nodes; opened = o })
+      pub next-many : maxThreads < b .count → nodeAt facts rules n s (nodesIn nodes i) at ≡ refused 15 at
       next-many h =
           let many : opensToMany (nodesIn nodes i) (nodeHeld kind (r .first) (r .second)) ≡ true =
           ap (ltb maxThreads) (sym (count ∙ threads)) ∙ lt-ltb maxThreads (b .count) h in
-          record { reading = sym (rw (checked, fields-got a, many)); held = λ k next g. refused-never refl g }
+          rw (checked, fields-got a, many)
 
-      module _ (small : i < maxNodes) (kinds : length (nodes .kinds) ≡ maxNodes) (firsts : length (nodes .firsts) ≡ maxNodes)
-          (seconds : length (nodes .seconds) ≡ maxNodes) (counts : length (o .counts) ≡ 64) (room : length (o .threads) ≡ 512) where
+      module _ (small : i < maxNodes) (room : Room nodes o) where
         added : nodesIn (withNode nodes i kind (r .first) (r .second)) (i + 1) ≡ nodesIn nodes i ++ (nodeHeld kind (r .first) (r .second) ∷ [])
         added = nodes-with nodes i kind (r .first) (r .second) (omega arith) (omega arith) (omega arith)
 
@@ -104,26 +106,29 @@ module _ (facts : ℕ) (rules : List Rule) (n : ℕ) (s : List ℕ) (nodes : Nod
         tabled h =
             rw (stored h)
             (subst (λ (k : ℕ). OpenedTable (nodesIn nodes i ++ (nodeHeld kind (r .first) (r .second) ∷ [])) (holding o k (threadsOf o k (nodeHeld kind (r .first) (r .second))))) long
-            (table-next (nodesIn nodes i) o (nodeHeld kind (r .first) (r .second)) table lower (omega (arith, long)) counts room
+            (table-next (nodesIn nodes i) o (nodeHeld kind (r .first) (r .second)) table lower (omega (arith, long)) (room .counts) (room .threads)
             (omega (arith, count, ap (λ (k : ℕ). length (threadsOf o k (nodeHeld kind (r .first) (r .second)))) long))))
 
-        pub next-few : b .count ≤ maxThreads
-            → NextFound facts rules n s (nodesIn nodes i) i at
-            (record { answer = Got (i + 1) next; nodes = withNode nodes i kind (r .first) (r .second); opened = b .opened })
+        wide : b .count ≤ maxThreads → Room (withNode nodes i kind (r .first) (r .second)) (b .opened)
+        wide h =
+            rw (stored h)
+            (record {
+              kinds = length-set (nodes .kinds) i kind ∙ room .kinds;
+              firsts = length-set (nodes .firsts) i (r .first) ∙ room .firsts;
+              seconds = length-set (nodes .seconds) i (r .second) ∙ room .seconds;
+              counts = length-set (o .counts) i (length (threadsOf o i (nodeHeld kind (r .first) (r .second)))) ∙ room .counts;
+              threads = length-sets (o .threads) (8 * i) (threadsOf o i (nodeHeld kind (r .first) (r .second))) ∙ room .threads;
+            })
+
+        pub next-few : b .count ≤ maxThreads → NextNode facts rules n s nodes i at (withNode nodes i kind (r .first) (r .second)) (b .opened) next
         next-few h =
             let few : opensToMany (nodesIn nodes i) (nodeHeld kind (r .first) (r .second)) ≡ false =
             ap (ltb maxThreads) (sym (count ∙ threads)) ∙ le-ltb maxThreads (b .count) h in
             record {
-              reading = ap (λ (l : List Node). got l next) added ∙ sym (rw (checked, fields-got a, few));
-              held = λ k end g. same k end g;
+              node = nodeHeld kind (r .first) (r .second);
+              reading = rw (checked, fields-got a, few);
+              nodes = added;
+              table = rw added (tabled h);
+              room = wide h;
+              within = next-fits .1;
             }
-          where
-            whole : NodesHeld s (record { answer = Got (i + 1) next; nodes = withNode nodes i kind (r .first) (r .second); opened = b .opened }) (i + 1) next
-            whole = record { within = next-fits .1; some = omega arith; few = omega arith; table = rw added (tabled h) }
-
-            same : (k end : ℕ) → Got (i + 1) next ≡ Got k end
-                → (k ≡ i + 1) × NodesHeld s (record { answer = Got (i + 1) next; nodes = withNode nodes i kind (r .first) (r .second); opened = b .opened }) k end
-            same k end g =
-                let p : i + 1 ≡ k = cc in
-                let q : next ≡ end = cc in
-                (sym p, rw (sym p, sym q) whole)

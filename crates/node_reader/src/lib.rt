@@ -7,15 +7,13 @@ use held::Section;
 use held::Sheet;
 ghost use mathlib.Core.Path.{_≡_};
 ghost use mathlib.Core.List.{[]};
-ghost use Prim.Native.Nat.{_+_, _≤_, _<_};
+ghost use Prim.Native.Nat.{_≤_};
 ghost use lib.ListN.{length};
 ghost use Rattle.sheets.specs.Limits.{maxFacts, maxRules, minNodes, maxNodes};
 ghost use Rattle.sheets.specs.Reading.{nodeAt, nodesAt, recordsFrom};
 ghost use Rattle.closing.specs.Layout.{rulesIn};
-ghost use Rattle.held.specs.Held.{nodesIn};
-ghost use Rattle.opening.specs.Table.{OpenedTable};
 ghost use Rattle.node_reader.specs.HeldFirst.{closedFirst};
-ghost use Rattle.node_reader.specs.Found.{NodeFound, NextFound, NodesFound, withNode};
+ghost use Rattle.node_reader.specs.Found.{NodeFound, NodesFound};
 
 const MAX_THREADS: usize = Sheet::MAX_THREADS as usize;
 
@@ -74,64 +72,6 @@ fn node_at(
     }
 }
 
-// The nodes with node k put in.
-fn with_node(nodes: Nodes, k: usize, kind: u8, first: u16, second: u16) -> Nodes
-    requires { ⌜ k < maxNodes ⌝ }
-    ensures { λ r. ⌜ r ≡ withNode nodes k kind first second ⌝ }
-{
-    let mut kinds = nodes.kinds;
-    let mut firsts = nodes.firsts;
-    let mut seconds = nodes.seconds;
-    kinds[k] = kind;
-    firsts[k] = first;
-    seconds[k] = second;
-    Nodes {
-        kinds,
-        firsts,
-        seconds,
-    }
-}
-
-// One node more, after the i nodes that are read and in the table.
-fn next_node(
-    s: &[u8],
-    facts: u16,
-    rules: &[u16; 64],
-    rule_count: u16,
-    n: u16,
-    nodes: Nodes,
-    opened: Opened,
-    i: u16,
-    at: usize,
-) -> NodesRead
-    requires { ⌜ (at ≤ length (now s)) × (facts ≤ maxFacts) × («rule_count» ≤ maxRules) × (i < maxNodes) × OpenedTable (nodesIn nodes i) opened ⌝ }
-    ensures { λ r. ⌜ NextFound facts (rulesIn (now (rules .entry)) «rule_count») n (now (s .entry)) (nodesIn nodes i) i at r ⌝ }
-{
-    let r = node_at(s, facts, rules, rule_count, n, i, at);
-    let answer = r.answer;
-    let Section::Got(kind, next) = answer else {
-        return NodesRead {
-            answer,
-            nodes,
-            opened,
-        };
-    };
-    let o = opening::open_node(opened, kind, r.first, r.second, i as usize);
-    if MAX_THREADS < o.count {
-        return NodesRead {
-            answer: Section::Refused(15, at),
-            nodes,
-            opened,
-        };
-    }
-    let table = o.opened;
-    NodesRead {
-        answer: Section::Got(i + 1, next),
-        nodes: with_node(nodes, i as usize, kind as u8, r.first, r.second),
-        opened: table,
-    }
-}
-
 // This answer with no node beside it.
 fn no_nodes(answer: Section) -> NodesRead
     ensures { λ r. ⌜ r .answer ≡ answer ⌝ }
@@ -150,7 +90,7 @@ fn no_nodes(answer: Section) -> NodesRead
     }
 }
 
-// n nodes.
+// n nodes, each with the threads that it opens to.
 fn nodes_from(
     s: &[u8],
     facts: u16,
@@ -162,21 +102,39 @@ fn nodes_from(
     requires { ⌜ (at ≤ length (now s)) × (facts ≤ maxFacts) × («rule_count» ≤ maxRules) × (minNodes ≤ n) × (n ≤ maxNodes) ⌝ }
     ensures { λ r. ⌜ NodesFound (recordsFrom (nodeAt facts (rulesIn (now (rules .entry)) «rule_count») n (now (s .entry))) n [] at) (now (s .entry)) r ⌝ }
 {
-    let mut read = no_nodes(Section::Got(0, at));
+    let mut kinds = [0u8; 64];
+    let mut firsts = [0u16; 64];
+    let mut seconds = [0u16; 64];
+    let mut counts = [0u8; 64];
+    let mut threads = [0u8; 512];
     let mut p = at;
     let mut i: u16 = 0;
     while i < n {
-        let nodes = read.nodes;
-        let opened = read.opened;
-        read = next_node(s, facts, rules, rule_count, n, nodes, opened, i, p);
-        let answer = read.answer;
-        let Section::Got(_, next) = answer else {
-            return read;
+        let r = node_at(s, facts, rules, rule_count, n, i, p);
+        let answer = r.answer;
+        let Section::Got(kind, next) = answer else {
+            return no_nodes(answer);
         };
+        let k = i as usize;
+        let count = opening::open_node(&mut counts, &mut threads, kind, r.first, r.second, k);
+        if MAX_THREADS < count {
+            return no_nodes(Section::Refused(15, p));
+        }
+        kinds[k] = kind as u8;
+        firsts[k] = r.first;
+        seconds[k] = r.second;
         p = next;
         i += 1;
     }
-    read
+    NodesRead {
+        answer: Section::Got(n, p),
+        nodes: Nodes {
+            kinds,
+            firsts,
+            seconds,
+        },
+        opened: Opened { counts, threads },
+    }
 }
 
 // The nodes and the threads that each opens to.

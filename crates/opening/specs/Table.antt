@@ -14,7 +14,18 @@ use Rattle.sheets.specs.OpeningLaws.{LowerNames, Lower, lower-none, lower-next,
 use Rattle.held.specs.Held.{nodeHeld, openedIn, OpenedHeld}
 use Rattle.held.specs.declared.Opened.{Opened}
 use Rattle.lists.specs.Storing.{sets-append, part-sets, stored-part}
-use Rattle.opening.specs.declared.OpenedNode.{OpenedNode}
+
+-- the table in two arrays
+abbrev pub tableIn : List ℕ → List ℕ → Opened
+tableIn counts threads = record { counts = counts; threads = threads }
+
+-- the number of threads that a node opens to, and the table after it
+pub record OpenedNode : Type 0 where
+  pub count : ℕ
+  pub opened : Opened
+
+abbrev pub openedNode : ℕ → List ℕ → List ℕ → OpenedNode
+openedNode n counts threads = record { count = n; opened = tableIn counts threads }
 
 -- the table with these threads for node k
 abbrev pub holding : Opened → ℕ → List ℕ → Opened

@@ -1,3 +1,2 @@
-pub mod PrintableReports
 pub mod OutcomeText
 pub mod OutcomeTextLaws

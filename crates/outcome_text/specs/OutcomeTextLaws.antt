@@ -1,18 +1,19 @@
 -- Each variant of the call's answer is printed as the outcome that is returned so.
 use mathlib.Core.Path.{_≡_, refl, sym, ap, ap₂, _∙_, subst}
-use mathlib.Core.Bool.{Bool, false, cond}
+use mathlib.Core.Bool.{Bool, true, false, cond}
 use mathlib.Core.List.{List, [], _∷_, _++_}
-use Prim.Native.Nat.{ℕ, _≤_}
+use Prim.Native.Nat.{ℕ, _≤_, _<_}
 use native.Mathlib.Omega.{arith}
 use lib.ListN.{length, take, drop}
 use lib.Seq.{take-append-seam}
 use lib.Dec.{ltb}
-use borrow.Author.Tests.{le-ltb}
+use borrow.Author.Tests.{le-ltb, lt-ltb}
 use Rattle.lines.specs.Lines.{line, refusedWord}
 use Rattle.comparison.specs.Report as spec
 use Rattle.comparison.specs.Report.{Verdict, SAME, DIFF, reportBytes, reportLength}
 use Rattle.comparison.specs.Call.{Outcome, reported, refusal, answerAfter, compare}
 use Rattle.comparison.specs.Print.{printed}
+use Rattle.answers.specs.FittingLaws.{outcome-fits}
 use Rattle.text.specs.Slices.{lineRoom, Written}
 use Rattle.report_text.specs.ReportText as report
 use Rattle.report_text.specs.ReportText.{ReportWritten}
@@ -20,8 +21,7 @@ use Rattle.reporting.specs.declared.Reported.{Reported}
 use Rattle.reporting.specs.declared.Answer.{Answer}
 use Rattle.reporting.specs.declared.Answer.the-variants.{Report, Refused}
 use Rattle.reporting.specs.ReportMade.{isSame, returnedOf, returned}
-use Rattle.outcome_text.specs.PrintableReports.{outcome-printable}
-use Rattle.outcome_text.specs.OutcomeText.{Answered, OutcomeWritten}
+use Rattle.outcome_text.specs.OutcomeText.{Answered, textRoom, OutcomeWritten, OutcomeStored}
 
 -- an answer after a report begins with its bytes
 pub answer-begins : (q : spec.Report) (before after : List ℕ) → after ≡ answerAfter (reported q) before
@@ -33,7 +33,7 @@ answer-begins q before after e =
 pub call-answered : (bytes : List ℕ) (first second work room : ℕ) (before after : List ℕ) (o : Outcome)
     → compare bytes first second work room ≡ o → after ≡ answerAfter o before → Answered o after
 call-answered bytes first second work room before after (reported q) e a =
-    (outcome-printable bytes first second work room q e, answer-begins q before after a)
+    (outcome-fits bytes first second work room q e, answer-begins q before after a)
 call-answered bytes first second work room before after (refusal number place) e a = tt
 
 -- the two tests of a verdict are one
@@ -43,7 +43,7 @@ same-test-of DIFF = refl
 
 -- the text of a report
 pub report-outcome : {r : Answer} {x : Reported} → r ≡ Report x → (answer before after : List ℕ) (k : ℕ)
-    → ReportWritten (x .same) (x .round) answer before after k → OutcomeWritten r answer before after k
+    → ReportWritten (x .same) (x .round) answer before after k → OutcomeStored r answer before after k
 report-outcome {r} {x} is answer before after k w = record {
   text = λ o e a. both o (sym is ∙ e) a .1;
   count = λ o e a. both o (sym is ∙ e) a .0;
@@ -60,7 +60,7 @@ report-outcome {r} {x} is answer before after k w = record {
 
 -- the line of a refusal
 pub refusal-outcome : {r : Answer} {number place : ℕ} → r ≡ Refused number place → (answer before after : List ℕ) (k : ℕ)
-    → lineRoom ≤ length before → Written (line refusedWord (number ∷ place ∷ [])) before after k → OutcomeWritten r answer before after k
+    → lineRoom ≤ length before → Written (line refusedWord (number ∷ place ∷ [])) before after k → OutcomeStored r answer before after k
 refusal-outcome {r} {number} {place} is answer before after k room w = record {
   text = λ o e a. both o (sym is ∙ e) .1;
   count = λ o e a. both o (sym is ∙ e) .0;
@@ -87,3 +87,26 @@ refusal-outcome {r} {number} {place} is answer before after k room w = record {
         let place-is : place ≡ p = cc in
         let same : refusal number place ≡ refusal n p = ap₂ refusal number-is place-is in
         subst (λ (o : Outcome). (k ≡ length (printed o)) × (after ≡ printed o ++ drop (length (printed o)) before)) same written
+
+-- ---- the room
+-- a slice that is too short is left as it is
+pub outcome-short : (r : Answer) (answer out : List ℕ) → length out < textRoom → OutcomeWritten r answer out out 0
+outcome-short r answer out h =
+    let short : ltb (length out) textRoom ≡ true = lt-ltb (length out) textRoom h in
+    record {
+      text = λ o e a. ap (λ (b : Bool). cond b out (printed o ++ drop (length (printed o)) out)) (sym short);
+      count = λ o e a. ap (λ (b : Bool). cond b 0 (length (printed o))) (sym short);
+      inside = omega arith;
+      counted = refl;
+    }
+
+pub outcome-written : {r : Answer} {answer out after : List ℕ} {k : ℕ} → textRoom ≤ length out → OutcomeStored r answer out after k
+    → OutcomeWritten r answer out after k
+outcome-written {out = out} h s =
+    let room : ltb (length out) textRoom ≡ false = le-ltb (length out) textRoom h in
+    record {
+      text = λ o e a. s .text o e a ∙ ap (λ (b : Bool). cond b out (printed o ++ drop (length (printed o)) out)) (sym room);
+      count = λ o e a. s .count o e a ∙ ap (λ (b : Bool). cond b 0 (length (printed o))) (sym room);
+      inside = s .inside;
+      counted = s .counted;
+    }

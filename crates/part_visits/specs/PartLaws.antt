@@ -24,14 +24,14 @@ use Rattle.work_places.specs.WorkPlaces.{movesAt, pendingAt, pendingEnd, workEn
 use Rattle.gathering.specs.Gathered.{Growth, InHand}
 use Rattle.gathering.specs.GatheredLaws.{move-threads-pass}
 use Rattle.pending.specs.declared.Beside.{Beside}
-use Rattle.pending.specs.PendingNodes.{Pushed, PutBeside}
+use Rattle.pending.specs.PendingNodes.{PendingPacked, Entered, PutBeside}
 use Rattle.pending.specs.PendingLaws.{weight, weight-none, weight-append, weight-next, weight-parts}
 use Rattle.walks.specs.declared.Basis.{Basis}
 use Rattle.walks.specs.declared.Walk.{Walk}
 use Rattle.walks.specs.declared.Walked.{Walked}
 use Rattle.walks.specs.declared.Walked.the-variants.{On, Over}
 use Rattle.walks.specs.Walking.{NodeFits, Walking, Covering, OnSheet, TurnOn}
-use Rattle.walks.specs.PushedLaws.{threads-joined, topped, NodesAdded, added-none, pushed-added, added-again, pushed-walking, GiveSame, given-of-one, give-same-refl, parts-give, added-turn}
+use Rattle.walks.specs.PushedLaws.{threads-joined, topped, NodesAdded, added-none, entered-added, entered-few, entered-long, entered-packed, entered-walking, added-again, GiveSame, given-of-one, give-same-refl, parts-give, added-turn}
 use Rattle.part_visits.specs.Parts.{threadsAt, besideOf, PassedOver, PartStored, PartTooLong, PartAs, NodeKnown, BothTurned, EitherTurned}
 
 -- ---- marks
@@ -48,13 +48,19 @@ pub not-left : (x : Bool) → not x ≡ false → x ≡ true
 not-left true h = refl
 not-left false h = sym h
 
--- ---- at most one node was stored, and the slice is as long as it was
-part-room : {mark : ℕ} {x : Configuration} {limit : ℕ} {v w : List ℕ} {s t : Walk}
-    → PassedOver mark v s w t ⊎ PartStored mark x limit v s w t → (t .top ≤ s .top + 1) × (length w ≡ length v)
-part-room {mark} {x} {limit} {v} {w} {s} {t} (inl o) =
+-- ---- at most one node was stored, the slice is as long as it was, and every entry is that of a configuration
+part-room : {mark : ℕ} {x : Configuration} {limit n : ℕ} {v w : List ℕ} {s t : Walk}
+    → PassedOver mark v s w t ⊎ PartStored mark x limit n v s w t → (t .top ≤ s .top + 1) × (length w ≡ length v)
+part-room {s = s} {t} (inl o) =
     let a : t .top ≡ s .top = ap (λ (i : Walk). i .top) (o .walk) in (omega arith, ap length (o .same))
-part-room {mark} {x} {limit} {v} {w} {s} {t} (inr o) =
-    let a : t .top ≡ s .top + 1 = ap (λ (i : Walk). i .top) (o .walk) in (omega arith, o .pushed .outside .long)
+part-room (inr o) = (entered-few (o .entered), entered-long (o .entered))
+
+part-packed : {mark : ℕ} {x : Configuration} {limit n : ℕ} {v w : List ℕ} {s t : Walk} → ((i : ℕ) → i < s .top → PendingPacked v i)
+    → PassedOver mark v s w t ⊎ PartStored mark x limit n v s w t → (i : ℕ) → i < t .top → PendingPacked w i
+part-packed {v = v} {w} {s} {t} f (inl o) i l =
+    let a : t .top ≡ s .top = ap (λ (i : Walk). i .top) (o .walk) in
+    subst (λ (z : List ℕ). PendingPacked z i) (sym (o .same)) (f i (omega arith))
+part-packed f (inr o) i l = entered-packed f (o .entered) i l
 
 -- ---- the threads of another node put beside
 joined-length : (ts more : List ℕ) → NotFalling ts → length (insertAll ts more) ≡ length ts + length more
@@ -81,10 +87,10 @@ module _ (threads : List ℕ) (e : held.Configuration) (limit : ℕ) (r : Beside
       same = refl;
     }
 
-    pub part-stored : (s : Walk) (w : List ℕ) → r .fits ≡ true
-        → Pushed v (s .top) (record { store = p; threads = configuration (r .at) .threads }) w
-        → PartStored mark (besideOf p threads (configuration e)) limit v s w (topped s (s .top + 1))
-    part-stored s w t o = record {
+    pub part-stored : (s : Walk) (w : List ℕ) (high next : ℕ) → r .fits ≡ true
+        → Entered v (s .top) high (record { store = p; threads = configuration (r .at) .threads }) w next
+        → PartStored mark (besideOf p threads (configuration e)) limit high v s w (topped s next)
+    part-stored s w high next t o = record {
       moves = moving;
       few =
           omega (
@@ -92,8 +98,8 @@ module _ (threads : List ℕ) (e : held.Configuration) (limit : ℕ) (r : Beside
             leb-true (e .count + length threads) limit (sym (a .fits) ∙ t),
             joined-length (configuration e .threads) threads up,
           );
-      pushed =
-          subst (λ (l : List ℕ). Pushed v (s .top) (record { store = p; threads = l }) w)
+      entered =
+          subst (λ (l : List ℕ). Entered v (s .top) high (record { store = p; threads = l }) w next)
           (ap (λ (x : Configuration). x .threads) (a .joined t)) o;
       walk = refl;
     }
@@ -116,15 +122,15 @@ record PartAdded (nodes : List Node) (b : Basis) (x : Configuration) (v : List �
   number : (y : Configuration) → List·Memᴰ y stored → y .store ≡ x .store
   give : (sheet : Sheet) → sheet .nodes ≡ nodes → GiveSame sheet (b .store) (x ∷ []) stored
 
--- a part that is stored
-stored-part : (nodes : List Node) (b : Basis) (x : Configuration) (v : List ℕ) (s : Walk) (w : List ℕ) → Walking v b s → NodeFits b x
-    → x .store + s .top < 64 → Pushed v (s .top) x w → PartAdded nodes b x v s w (topped s (s .top + 1))
-stored-part nodes b x v s w k fit low p =
+-- a part that is among the nodes to visit
+stored-part : (nodes : List Node) (b : Basis) (x : Configuration) (n next : ℕ) (v : List ℕ) (s : Walk) (w : List ℕ) → Walking v b s
+    → NodeFits b x → x .store < n → n + s .top ≤ 64 → Entered v (s .top) n x w next → PartAdded nodes b x v s w (topped s next)
+stored-part nodes b x n next v s w k fit low room p =
     record {
       stored = x ∷ [];
-      added = pushed-added (omega arith) p;
-      walking = pushed-walking k p fit low;
-      top = omega arith;
+      added = entered-added (omega arith) p;
+      walking = entered-walking k fit low room p;
+      top = entered-few p;
       light = omega (arith, weight-one x);
       number = λ y m. ap (λ (z : Configuration). z .store) (List·Memᴰ·eq-of-singleton m);
       give = λ sheet e. give-same-refl sheet (b .store) (x ∷ []);
@@ -144,9 +150,10 @@ module _ (nodes : List Node) (low : Lower nodes) (b : Basis) (x : Configuration)
         back = λ m y. absurd (List·Memᴰ·not-nil (y .1));
       }
 
-  part-added : {v w : List ℕ} {s t : Walk} → Walking v b s → (length (x .threads) ≤ b .caps .threads → NodeFits b x)
-      → x .store + s .top < 64 → PassedOver mark v s w t ⊎ PartStored mark x (b .caps .threads) v s w t → PartAdded nodes b x v s w t
-  part-added {v} {w} {s} {t} k fit h (inl o) =
+  part-added : {n : ℕ} {v w : List ℕ} {s t : Walk} → Walking v b s → (length (x .threads) ≤ b .caps .threads → NodeFits b x)
+      → x .store < n → n + s .top ≤ 64 → PassedOver mark v s w t ⊎ PartStored mark x (b .caps .threads) n v s w t
+      → PartAdded nodes b x v s w t
+  part-added {n} {v} {w} {s} {t} k fit h room (inl o) =
       subst (λ (l : List ℕ). PartAdded nodes b x v s l t) (sym (o .same))
       (subst (λ (r : Walk). PartAdded nodes b x v s v r) (sym (o .walk))
       (record {
@@ -158,8 +165,9 @@ module _ (nodes : List Node) (low : Lower nodes) (b : Basis) (x : Configuration)
         number = λ y m. absurd (List·Memᴰ·not-nil m);
         give = passed-gives (o .still);
       }))
-  part-added {v} {w} {s} {t} k fit h (inr o) =
-      subst (λ (r : Walk). PartAdded nodes b x v s w r) (sym (o .walk)) (stored-part nodes b x v s w k (fit (o .few)) h (o .pushed))
+  part-added {n} {v} {w} {s} {t} k fit h room (inr o) =
+      subst (λ (r : Walk). PartAdded nodes b x v s w r) (sym (o .walk))
+      (stored-part nodes b x n (t .top) v s w k (fit (o .few)) h room (o .entered))
 
   -- a part for which there are too many threads gives a move to that many
   part-passes : {u v w : List ℕ} {s : Walk} {e : Configuration} → PartTooLong mark x (b .caps .threads) v w → (g : Growth) (h : InHand g)
@@ -252,39 +260,44 @@ module _ (counts threads movables : List ℕ) (p q : ℕ) (b : Basis) (v : List 
   }
 
   pub both-first-over : (w : List ℕ) (answer : Walked) → answer ≡ Over
-      → PartAs (getD movables p 0) (besideOf p (threadsAt counts threads q) e) (b .caps .threads) v s w answer
+      → PartAs (getD movables p 0) (besideOf p (threadsAt counts threads q) e) (b .caps .threads) (e .store) v s w answer
       → BothTurned counts threads movables p q b v s e w Over
   both-first-over w answer told a =
-      first-over w (subst (PartAs (getD movables p 0) (besideOf p (threadsAt counts threads q) e) (b .caps .threads) v s w) told a)
+      first-over w (subst (PartAs (getD movables p 0) (besideOf p (threadsAt counts threads q) e) (b .caps .threads) (e .store) v s w) told a)
 
   -- the first part is stored or passed over, and then the second
   module _ (u : List ℕ) (r : Walk) (answer : Walked) (told : answer ≡ On r)
-      (a : PartAs (getD movables p 0) (besideOf p (threadsAt counts threads q) e) (b .caps .threads) v s u answer) where
-    first : PartAs (getD movables p 0) (besideOf p (threadsAt counts threads q) e) (b .caps .threads) v s u (On r)
-    first = subst (PartAs (getD movables p 0) (besideOf p (threadsAt counts threads q) e) (b .caps .threads) v s u) told a
+      (a : PartAs (getD movables p 0) (besideOf p (threadsAt counts threads q) e) (b .caps .threads) (e .store) v s u answer) where
+    first : PartAs (getD movables p 0) (besideOf p (threadsAt counts threads q) e) (b .caps .threads) (e .store) v s u (On r)
+    first = subst (PartAs (getD movables p 0) (besideOf p (threadsAt counts threads q) e) (b .caps .threads) (e .store) v s u) told a
 
     -- there is room for the second
-    pub both-room : (r .top < 64) × (pendingEnd ≤ length u)
-    both-room = let m = part-room first in (omega (arith, m .0), omega (arith, m .1, k .collecting .long))
+    pub both-room : (r .top < 64) × (pendingEnd ≤ length u) × ((i : ℕ) → i < r .top → PendingPacked u i)
+    both-room =
+        let m = part-room first in (
+          omega (arith, m .0),
+          omega (arith, m .1, k .collecting .long),
+          part-packed (λ i l. k .entries i l .packed) first,
+        )
 
     first-added : (nodes : List Node) → Lower nodes → e .store < length nodes → NodeKnown nodes counts threads movables p
         → NodeKnown nodes counts threads movables q → PartAdded nodes b (beside nodes p q) v s u r
     first-added nodes low l kp kq =
         part-added nodes low b (beside nodes p q) (omega arith) (getD movables p 0) (kp .mark) k
-        (beside-fits nodes low p q hp hq) (omega arith)
-        (subst (λ (x : Configuration). PartAs (getD movables p 0) x (b .caps .threads) v s u (On r)) (beside-is nodes p q (kq .opens)) first)
+        (beside-fits nodes low p q hp hq) hp (omega arith)
+        (subst (λ (x : Configuration). PartAs (getD movables p 0) x (b .caps .threads) (e .store) v s u (On r)) (beside-is nodes p q (kq .opens)) first)
 
     pub both-then : (w : List ℕ) (t : Walked)
-        → PartAs (getD movables q 0) (besideOf q (threadsAt counts threads p) e) (b .caps .threads) u r w t
+        → PartAs (getD movables q 0) (besideOf q (threadsAt counts threads p) e) (b .caps .threads) (e .store) u r w t
         → BothTurned counts threads movables p q b v s e w t
     both-then w (On t) x = record {
       turned = λ nodes low l is kp kq.
           let f = first-added nodes low l kp kq in
           parts-turn nodes b e (beside nodes p q) (beside nodes q p) k hp hq (both-moves nodes low l is) f
           (part-added nodes low b (beside nodes q p) (omega arith) (getD movables q 0) (kq .mark) (f .walking)
-          (beside-fits nodes low q p hq hp)
+          (beside-fits nodes low q p hq hp) hq
           (omega (arith, f .top))
-          (subst (λ (y : Configuration). PartAs (getD movables q 0) y (b .caps .threads) u r w (On t)) (beside-is nodes q p (kp .opens)) x));
+          (subst (λ (y : Configuration). PartAs (getD movables q 0) y (b .caps .threads) (e .store) u r w (On t)) (beside-is nodes q p (kp .opens)) x));
     }
     both-then w Over x = record {
       turned = λ nodes low l is kp kq.
@@ -304,24 +317,23 @@ module _ (counts threads movables : List ℕ) (p q : ℕ) (b : Basis) (v : List 
     }
 
 -- ---- an either
-pub either-turned : (p q : ℕ) (u v w : List ℕ) (s : Walk) (e : Configuration) → p < e .store → q < e .store → e .store + s .top < 64
-    → Pushed u (s .top) (record { store = p; threads = e .threads }) v
-    → Pushed v (s .top + 1) (record { store = q; threads = e .threads }) w
-    → EitherTurned p q u s e w (topped s (s .top + 2))
-either-turned p q u v w s e hp hq high f g = record {
+pub either-turned : (p q one two : ℕ) (u v w : List ℕ) (s : Walk) (e : Configuration) → p < e .store → q < e .store → e .store + s .top < 64
+    → Entered u (s .top) (e .store) (record { store = p; threads = e .threads }) v one
+    → Entered v one (e .store) (record { store = q; threads = e .threads }) w two
+    → EitherTurned p q u s e w (topped s two)
+either-turned p q one two u v w s e hp hq high f g = record {
   turned = λ b k fit nodes low l is.
       let x : Configuration = record { store = p; threads = e .threads } in
       let y : Configuration = record { store = q; threads = e .threads } in
       let n = fit .node in
-      let one : PartAdded nodes b x u s v (topped s (s .top + 1)) =
-      stored-part nodes b x u s v k (record { node = omega arith; threads = fit .threads }) (omega arith) f in
-      let two : PartAdded nodes b y v (topped s (s .top + 1)) w (topped s (s .top + 1 + 1)) =
-      stored-part nodes b y v (topped s (s .top + 1)) w (one .walking) (record { node = omega arith; threads = fit .threads }) (omega arith) g in
-      let a : s .top + 1 + 1 ≡ s .top + 2 = omega arith in
-      subst (λ (i : ℕ). TurnOn nodes b u s (e ∷ []) w (topped s i)) a
-      (parts-turn nodes b e x y k hp hq
+      let first : PartAdded nodes b x u s v (topped s one) =
+      stored-part nodes b x (e .store) one u s v k (record { node = omega arith; threads = fit .threads }) hp (omega arith) f in
+      let second : PartAdded nodes b y v (topped s one) w (topped s two) =
+      stored-part nodes b y (e .store) two v (topped s one) w (first .walking) (record { node = omega arith; threads = fit .threads }) hq
+      (omega (arith, first .top)) g in
+      parts-turn nodes b e x y k hp hq
       (λ sheet o.
       moves-of-either sheet (subst Lower (sym o) low) (b .store) (e .threads) (e .store)
       (subst (λ (ns : List Node). e .store < length ns) (sym o) l) p q
-      (subst (λ (ns : List Node). nodeOf ns (e .store) ≡ either p q) (sym o) is)) one two);
+      (subst (λ (ns : List Node). nodeOf ns (e .store) ≡ either p q) (sym o) is)) first second;
 }

@@ -9,7 +9,7 @@ use Rattle.lists.specs.SortingLaws.{insertAll}
 use Rattle.sheets.specs.Sheet.{Node, both, either, Configuration, nodeOf, opened}
 use Rattle.sheets.specs.OpeningLaws.{Lower}
 use Rattle.node_moves.specs.NodeMoves.{movable}
-use Rattle.pending.specs.PendingNodes.{Pushed}
+use Rattle.pending.specs.PendingNodes.{Entered}
 use Rattle.walks.specs.declared.Basis.{Basis}
 use Rattle.walks.specs.declared.Walk.{Walk}
 use Rattle.walks.specs.declared.Walked.{Walked}
@@ -32,12 +32,12 @@ pub record PassedOver (mark : ℕ) (v : List ℕ) (s : Walk) (w : List ℕ) (t :
   pub same : w ≡ v
   pub walk : t ≡ s
 
--- its mark is not 0 and there are not too many threads: it was stored after the others
-pub record PartStored (mark : ℕ) (x : Configuration) (limit : ℕ) (v : List ℕ) (s : Walk) (w : List ℕ) (t : Walk) : Type 0 where
+-- its mark is not 0 and there are not too many threads: it is among the nodes to visit, the ones above it lower than n
+pub record PartStored (mark : ℕ) (x : Configuration) (limit n : ℕ) (v : List ℕ) (s : Walk) (w : List ℕ) (t : Walk) : Type 0 where
   pub moves : mark ≡ 0 → ⊥
   pub few : length (x .threads) ≤ limit
-  pub pushed : Pushed v (s .top) x w
-  pub walk : t ≡ topped s (s .top + 1)
+  pub entered : Entered v (s .top) n x w (t .top)
+  pub walk : t ≡ topped s (t .top)
 
 -- its mark is not 0 and there are too many threads
 pub record PartTooLong (mark : ℕ) (x : Configuration) (limit : ℕ) (v w : List ℕ) : Type 0 where
@@ -46,9 +46,9 @@ pub record PartTooLong (mark : ℕ) (x : Configuration) (limit : ℕ) (v w : Lis
   pub same : w ≡ v
 
 -- by the answer
-abbrev pub PartAs : ℕ → Configuration → ℕ → List ℕ → Walk → List ℕ → Walked → Type 0
-PartAs mark x limit v s w (On t) = PassedOver mark v s w t ⊎ PartStored mark x limit v s w t
-PartAs mark x limit v s w Over = PartTooLong mark x limit v w
+abbrev pub PartAs : ℕ → Configuration → ℕ → ℕ → List ℕ → Walk → List ℕ → Walked → Type 0
+PartAs mark x limit n v s w (On t) = PassedOver mark v s w t ⊎ PartStored mark x limit n v s w t
+PartAs mark x limit n v s w Over = PartTooLong mark x limit v w
 
 -- ---- both parts
 -- the tables have the threads of node k and its mark

@@ -4,11 +4,12 @@ use walks::Basis;
 use walks::Walk;
 use walks::Walked;
 ghost use mathlib.Core.Path.{_≡_};
-ghost use Prim.Native.Nat.{_+_, _*_, _≤_, _<_};
+ghost use Prim.Native.Nat.{ℕ, _+_, _*_, _≤_, _<_};
 ghost use lib.ListN.{length, getD};
 ghost use Rattle.lists.specs.Ascending.{NotFalling};
 ghost use Rattle.held.specs.Held.{configuration};
 ghost use Rattle.work_places.specs.WorkPlaces.{pendingEnd};
+ghost use Rattle.pending.specs.PendingNodes.{PendingPacked};
 ghost use Rattle.walks.specs.Walking.{NodeFits, Walking};
 ghost use Rattle.part_visits.specs.Parts.{threadsAt, besideOf, PartAs, BothTurned, EitherTurned};
 
@@ -25,10 +26,11 @@ fn push_beside(
     s: Walk,
 ) -> Walked
     requires { ⌜ (p < 64) × (q < 64) × (s .top < 64) × (pendingEnd ≤ length (now w)) × (e .count ≤ b .caps .threads) × (b .caps .threads ≤ 8)
-        × (length (configuration e .threads) ≡ e .count) × (getD (now counts) q 0 ≤ 8) × NotFalling (configuration e .threads) ⌝ }
+        × (length (configuration e .threads) ≡ e .count) × (getD (now counts) q 0 ≤ 8) × NotFalling (configuration e .threads)
+        × ((i : ℕ) → i < s .top → PendingPacked (now w) i) ⌝ }
     ensures { λ r. ⌜ PartAs (getD (now (movables .entry)) p 0)
         (besideOf p (threadsAt (now (counts .entry)) (now (threads .entry)) q) (configuration e))
-        (b .caps .threads) (now (w .entry)) s (now (w .exit)) r ⌝ }
+        (b .caps .threads) (e .store) (now (w .entry)) s (now (w .exit)) r ⌝ }
 {
     if movables[p] == 0 {
         return Walked::On(s);
@@ -39,15 +41,14 @@ fn push_beside(
         return Walked::Over;
     }
     let at = joined.at;
-    let top = s.top;
-    pending::push(w, top, p as u16, at);
+    let next = pending::enter(w, s.top, e.store as usize, p as u16, at);
     let running = s.running;
     let shelf = s.shelf;
     Walked::On(Walk {
         running,
         shelf,
         marks: s.marks,
-        top: top + 1,
+        top: next,
     })
 }
 
@@ -77,18 +78,19 @@ pub fn visit_both(
 
 // An either: each of its nodes is to be visited, the other dropped.
 pub fn visit_either(w: &mut [u32], p: usize, q: usize, e: Configuration, s: Walk) -> Walk
-    requires { ⌜ (pendingEnd ≤ length (now w)) × (e .count ≤ 8) × (p < e .store) × (q < e .store) × (e .store + s .top < 64) ⌝ }
+    requires { ⌜ (pendingEnd ≤ length (now w)) × (e .count ≤ 8) × (p < e .store) × (q < e .store) × (e .store + s .top < 64)
+        × ((i : ℕ) → i < s .top → PendingPacked (now w) i) ⌝ }
     ensures { λ r. ⌜ EitherTurned p q (now (w .entry)) s (configuration e) (now (w .exit)) r ⌝ }
 {
-    let top = s.top;
-    pending::push(w, top, p as u16, e);
-    pending::push(w, top + 1, q as u16, e);
+    let n = e.store as usize;
+    let one = pending::enter(w, s.top, n, p as u16, e);
+    let two = pending::enter(w, one, n, q as u16, e);
     let running = s.running;
     let shelf = s.shelf;
     Walk {
         running,
         shelf,
         marks: s.marks,
-        top: top + 2,
+        top: two,
     }
 }

@@ -12,7 +12,7 @@ use borrow.Author.Tests.{eqb-true, eqb-false, ltb-true}
 use Rattle.lists.specs.Tests.{Tested, tested, passes, fails}
 use Rattle.lists.specs.Ascending.{Ascends}
 use Rattle.lists.specs.Places.{getD-any}
-use Rattle.lists.specs.Tables.{tabulate-same}
+use Rattle.lists.specs.Tables.{tabulate-same, tabulate-at}
 use Rattle.lists.specs.Tabulated.{ascends-at}
 use Rattle.sheets.specs.Sheet.{Configuration, Sheet}
 use Rattle.moves.specs.Orders.{configurationBefore, configurationOrder}
@@ -23,6 +23,8 @@ use Rattle.comparison.specs.Classes.{placeOf, classOf}
 use Rattle.comparison.specs.Rounds.{rounds}
 use Rattle.comparison.specs.SheetTransitions.{transitions}
 use Rattle.comparison.specs.ClassLaws.{placeOf-lt, placeOf-at}
+use Rattle.comparison.specs.RoundLaws.{Sharing}
+use Rattle.splitting.specs.RoundLines.{round-earlier}
 use Rattle.splitting.specs.ClassesPresent.{present-founders, present-alike, present-now}
 use Rattle.splitting.specs.SplitParts.{parts-all}
 use Rattle.splitting.specs.SetClasses.{present-result}
@@ -31,7 +33,7 @@ use Rattle.splitting.specs.HeldRounds.{dominatorsAt, classesAt, birthsAt, lines
 use Rattle.lining.specs.KeptMoves.{MoveKept, DominatorsKept, RoundHeld, dominators-later}
 use Rattle.lining.specs.Shapes.{Shape, held-shape, lined-set, lined-classes}
 use Rattle.lining.specs.LinedMembers.{lineTotal}
-use Rattle.lining.specs.LinedSets.{MemberLined, SetLined}
+use Rattle.lining.specs.LinedSets.{MemberLined, lines-same, LinedBefore, SetLined}
 use Rattle.lining.specs.Forgetting.{Forgotten, forgotten-held}
 use Rattle.refining.specs.ClassedPlaces.{firstIn, Classed, classed-count, classed-same}
 use Rattle.refining.specs.Founding.{storeIn, StoresRise, Founding}
@@ -61,18 +63,20 @@ pub record Refined (v : List ℕ) (n m : ℕ) (w : List ℕ) (r count : ℕ) : T
   pub rounds-held : (sheet : Sheet) (set : List Configuration) → SetReady sheet set v n m → RoundsHeld sheet set w n m r count
 
 -- ---- what holds after each round
--- the classes of round r of a set, and the dominating moves kept for it; each round up to r had a birth
-pub record RoundNow (sheet : Sheet) (set : List Configuration) (w : List ℕ) (n r count : ℕ) : Type 0 where
+-- the classes of round r of a set, and the dominating moves kept for it; where there is a round before, with `old` classes, its
+-- lines; each round up to r had a birth
+pub record RoundNow (sheet : Sheet) (set : List Configuration) (w : List ℕ) (n r old count : ℕ) : Type 0 where
   pub present : PresentHeld sheet set w count r
   pub kept : DominatorsKept sheet set w n (classesIn w n)
+  pub before : 0 < old → LinedBefore sheet set (classesIn w n) w n old
   pub births : (q : ℕ) → q < r → (c : ℕ) × (c < count) × (bornIn w c ≡ suc q)
 
-pub record Refining (v : List ℕ) (n m : ℕ) (w : List ℕ) (r count : ℕ) : Type 0 where
+pub record Refining (v : List ℕ) (n m : ℕ) (w : List ℕ) (r old count : ℕ) : Type 0 where
   pub same-set : SameSet v w
   pub at-end : (k : ℕ) → workEnd ≤ k → getD w k 0 ≡ getD v k 0
   pub classed : Classed w n count
   pub early : r < count
-  pub now : (sheet : Sheet) (set : List Configuration) → SetReady sheet set v n m → RoundNow sheet set w n r count
+  pub now : (sheet : Sheet) (set : List Configuration) → SetReady sheet set v n m → RoundNow sheet set w n r old count
 
 pub ready-same : {sheet : Sheet} {set : List Configuration} {v w : List ℕ} {n m : ℕ} → SetReady sheet set v n m → SameSet v w
     → SetReady sheet set w n m
@@ -140,7 +144,7 @@ stores-rise sheet set w n m R j k h l = go (tested (eqb j k))
 
 module _ (v : List ℕ) (n m : ℕ) (a : List ℕ) (f : Forgotten v m a) (b : List ℕ) (count : ℕ) (F : Founding a n b count) where
   first-now : (sheet : Sheet) (set : List Configuration) → SetReady sheet set a n m → DominatorsKept sheet set a n (classesIn b n)
-      → RoundNow sheet set b n 0 count
+      → RoundNow sheet set b n 0 0 count
   first-now sheet set R D = record {
     present = present-founders (λ (i : ℕ). i < length set) (TogetherHeld sheet set) (fromIn b) (bornIn b) count (classIn b)
         (λ c l. ap (λ (x : ℕ). x % 65536) (F .founders c l))
@@ -154,6 +158,7 @@ module _ (v : List ℕ) (n m : ℕ) (a : List ℕ) (f : Forgotten v m a) (b : Li
         ));
     kept = kept-moved sheet set a b n m (classesIn b n) (R .held) (same-set-high (omega arith) (F .only))
         (λ k l. F .only .at k (inl (omega arith))) D;
+    before = λ l. absurd (omega arith);
     births = λ q l. absurd (omega arith);
   }
     where
@@ -163,7 +168,7 @@ module _ (v : List ℕ) (n m : ℕ) (a : List ℕ) (f : Forgotten v m a) (b : Li
       store : (i : ℕ) → i < n → getD set i nobody .store ≡ storeIn a i
       store i l = ap (λ (p : Configuration). p .store) (held-at sheet set a n m (R .held) i nobody l)
 
-  pub refining-first : Ready v n m → Refining v n m b 0 count
+  pub refining-first : Ready v n m → Refining v n m b 0 0 count
   refining-first Y =
       let low : m ≤ 4096 = Y .ready .held .few .1 in
       let s : SameSet v a = same-set-low (omega arith) (f .outside) in record {
@@ -176,12 +181,12 @@ module _ (v : List ℕ) (n m : ℕ) (a : List ℕ) (f : Forgotten v m a) (b : Li
       }
 
 -- ---- one round more
-module _ (v : List ℕ) (n m : ℕ) (w : List ℕ) (r count : ℕ) (G : Refining v n m w r count) where
+module _ (v : List ℕ) (n m : ℕ) (w : List ℕ) (r old count : ℕ) (G : Refining v n m w r old count) where
   module _ (sheet : Sheet) (set : List Configuration) (R : SetReady sheet set v n m) where
     here : SetReady sheet set w n m
     here = ready-same R (G .same-set)
 
-    now : RoundNow sheet set w n r count
+    now : RoundNow sheet set w n r old count
     now = G .now sheet set R
 
     round-held : RoundHeld sheet set (classesIn w n) w n m r
@@ -201,10 +206,12 @@ module _ (v : List ℕ) (n m : ℕ) (w : List ℕ) (r count : ℕ) (G : Refining
       (now (Y .sheet) (Y .set) (Y .ready) .kept)
 
   -- ---- u has the lines of all members
-  module _ (u : List ℕ) (L : SetLined w n n u) where
+  module _ (u : List ℕ) (L : SetLined w n old n u) where
     lined-now : (sheet : Sheet) (set : List Configuration) → SetReady sheet set v n m
         → DominatorsKept sheet set u n (classesIn w n) × ((i : ℕ) → i < n → MemberLined sheet set (classesIn w n) u i)
-    lined-now sheet set R = L .lines sheet set (classesIn w n) m r (round-held sheet set R) (now sheet set R .kept)
+    lined-now sheet set R =
+        let x = L .lines sheet set (classesIn w n) m r (round-held sheet set R) (now sheet set R .kept) (now sheet set R .before) in
+        (x .0, x .1)
 
     small : (sheet : Sheet) (set : List Configuration) → SetReady sheet set v n m → (n ≤ 512) × (count ≤ 512)
     small sheet set R = (R .held .few .0, omega (arith, R .held .few .0, classed-count (G .classed)))
@@ -262,18 +269,45 @@ module _ (v : List ℕ) (n m : ℕ) (w : List ℕ) (r count : ℕ) (G : Refining
         old-birth : (c : ℕ) → c < count → bornIn x c ≡ bornIn w c
         old-birth c l = parts .same-born c l ∙ ap (λ (y : ℕ). y % 65536) (birth-same (small sheet set R .1) c l)
 
-        now-next : count < next → RoundNow sheet set x n (r + 1) next
+        -- what was kept in the round before stands in x
+        kept-here : DominatorsKept sheet set x n (classesIn w n)
+        kept-here =
+            kept-moved sheet set u x n m (classesIn w n) (S .ready .held) (same-set-high (omega arith) (Z .only))
+            (λ k l. Z .only .at k (inl (omega arith))) (lined-now sheet set R .0)
+
+        sharing-here : Sharing sheet (R .wf) set (R .closed) (classesIn w n) r
         unfolding here ready-same
+        sharing-here = present-round sheet set w n m count r (here sheet set R) (now sheet set R .present)
+
+        -- and so do its lines
+        before-next : Sharing sheet (R .wf) set (R .closed) (classesIn x n) (r + 1) → LinedBefore sheet set (classesIn x n) x n count
+        before-next sx = record {
+          before = classesIn w n;
+          from = record {
+            finer = λ p q mp mq e.
+                sharing-here .from-round p q mp mq
+                (round-earlier (transitions sheet) (r + 1) r p q (omega arith) (sx .to-round p q mp mq e));
+            same = λ i l c.
+                tabulate-at (classIn w) n i 0 l
+                ∙ sym (parts .kept i l c ∙ L .only .at-classes (classesAt + i) (omega arith) (omega (arith, small sheet set R .0)));
+          };
+          kept = kept-here;
+          lined = λ i l.
+              lines-same sheet set u x n m (classesIn w n) (S .ready .held) (same-set-high (omega arith) (Z .only))
+              (λ k a b. Z .only .at k (inl (omega arith))) (λ k a b. Z .only .at k (inr (omega arith))) i l (lined-now sheet set R .1 i l);
+        }
+
+        now-next : count < next → RoundNow sheet set x n (r + 1) count next
+        unfolding ready-same
         now-next more =
             let there : SetReady sheet set x n m = ready-same R same-here in
-            let p : PresentHeld sheet set x next (r + 1) = rw (add-one r) present-next in record {
+            let p : PresentHeld sheet set x next (r + 1) = rw (add-one r) present-next in
+            let sx : Sharing sheet (R .wf) set (R .closed) (classesIn x n) (r + 1) = present-round sheet set x n m next (r + 1) there p in
+            record {
               present = p;
               kept = dominators-later sheet set x n m (there .held) (R .wf) (R .closed) r (r + 1) (omega arith) (classesIn w n)
-                  (classesIn x n)
-                  (present-round sheet set w n m count r (here sheet set R) (now sheet set R .present))
-                  (present-round sheet set x n m next (r + 1) there p)
-                  (kept-moved sheet set u x n m (classesIn w n) (S .ready .held) (same-set-high (omega arith) (Z .only))
-                  (λ k l. Z .only .at k (inl (omega arith))) (lined-now sheet set R .0));
+                  (classesIn x n) sharing-here sx kept-here;
+              before = λ l. before-next sx;
               births = λ q l. born q l (tested (eqb q r));
             }
           where
@@ -330,7 +364,7 @@ module _ (v : List ℕ) (n m : ℕ) (w : List ℕ) (r count : ℕ) (G : Refining
             classed = C;
           }
 
-      pub refining-next : (next ≡ count → ⊥) → Refining v n m x (r + 1) next
+      pub refining-next : (next ≡ count → ⊥) → Refining v n m x (r + 1) count next
       refining-next d =
           let more : count < next = omega (arith, Z .more) in record {
             same-set = same-here;

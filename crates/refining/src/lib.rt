@@ -91,8 +91,8 @@ fn same_numbers(w: &[u32], a: usize, b: usize, k: usize) -> bool
     true
 }
 
-// Whether the members at places i and j have the same lines.
-fn same_lines(w: &[u32], i: usize, j: usize) -> bool
+// Whether the members at places i and j have as many lines, and the same.
+fn equal_lines(w: &[u32], i: usize, j: usize) -> bool
     requires { ⌜ LineFits (now w) i × LineFits (now w) j × (workEnd ≤ length (now w)) ⌝ }
     ensures { λ r. ⌜ Tells r (linesHeld (now (w .entry)) i ≡ linesHeld (now (w .entry)) j) ⌝ }
 {
@@ -106,6 +106,17 @@ fn same_lines(w: &[u32], i: usize, j: usize) -> bool
         LINES + lining::first_move(w, j),
         k as usize,
     )
+}
+
+// Whether the members at places i and j have the same lines; one and the same member has.
+fn same_lines(w: &[u32], i: usize, j: usize) -> bool
+    requires { ⌜ LineFits (now w) i × LineFits (now w) j × (workEnd ≤ length (now w)) ⌝ }
+    ensures { λ r. ⌜ Tells r (linesHeld (now (w .entry)) i ≡ linesHeld (now (w .entry)) j) ⌝ }
+{
+    if i == j {
+        return true;
+    }
+    equal_lines(w, i, j)
 }
 
 // Whether class k came from class c and its first member has the lines of the member at place i.
@@ -177,9 +188,10 @@ pub fn refine(w: &mut [u32], n: usize, m: usize) -> Rounds
 {
     lining::forget_dominators(w, m);
     let mut count = found_classes(w, n);
+    let mut old: usize = 0;
     let mut round: usize = 0;
     loop {
-        lining::line_all(w, n);
+        lining::line_all(w, n, old);
         let next = split_all(w, n, round + 1, count);
         if next == count {
             return Rounds {
@@ -187,6 +199,7 @@ pub fn refine(w: &mut [u32], n: usize, m: usize) -> Rounds
                 classes: count,
             };
         }
+        old = count;
         count = next;
         round += 1;
     }

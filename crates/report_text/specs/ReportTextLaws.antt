@@ -1,26 +1,22 @@
 -- The text of an answer that begins with a report's bytes is the report's.
-use mathlib.Core.Path.{_≡_, refl, sym, ap, ap₂, _∙_, subst}
-use mathlib.Core.Bool.{Bool, true}
+use mathlib.Core.Path.{_≡_, refl, sym, ap, ap₂, _∙_}
+use mathlib.Core.Bool.{Bool}
 use mathlib.Core.List.{List, [], _∷_, _++_, append-assoc, List·Memᴰ}
 use Prim.Native.Nat.{ℕ, _+_, _≤_, _<_}
 use native.Mathlib.Omega.{arith}
 use lib.ListN.{length, getD, take, drop, take-append-drop}
 use lib.Seq.{length-take-le, drop-drop, drop-append-seam}
-use lib.Dec.{ltb}
-use borrow.Author.Tests.{ltb-true, ltb-false}
-use Rattle.lists.specs.Tests.{Tested, passes, fails, tested}
 use Rattle.lists.specs.Members.{concatMap}
-use Rattle.lists.specs.Ascending.{Ascends}
-use Rattle.lists.specs.Places.{getD-in, getD-any, ascends-places}
+use Rattle.lists.specs.Places.{getD-in}
 use Rattle.lines.specs.Lines.{line}
 use Rattle.sheets.specs.Sheet.{Configuration}
-use Rattle.moves.specs.Orders.{configurationBefore, configurationOrder}
 use Rattle.comparison.specs.Classes.{placeOf, classOf}
-use Rattle.comparison.specs.ClassLaws.{placeOf-lt, placeOf-at}
 use Rattle.comparison.specs.Trail.{TrailStep, left, none}
 use Rattle.comparison.specs.Report.{Verdict, SAME, DIFF, Report, wordBytes, memberBytes, stepBytes, reportBytes, reportLength}
 use Rattle.comparison.specs.Call.{reported}
 use Rattle.comparison.specs.Print.{verdictWord, configurationsWord, trailWord, memberLine, memberLines, stepLine, printed}
+use Rattle.answers.specs.Fitting.{Fitting}
+use Rattle.answers.specs.MemberPlaces.{place-of-member}
 use Rattle.text.specs.Slices.{Stored}
 use Rattle.text.specs.LineLaws.{stored-length}
 use Rattle.report_text.specs.Runs.{run-whole}
@@ -28,28 +24,7 @@ use Rattle.report_text.specs.AnswerText.{wordOf, countIn, memberText, me
 use Rattle.report_text.specs.AnswerText.{stepText, stepEnd, stepsText, trailPlace, answerText}
 use Rattle.report_text.specs.TextLaws.{stored-front}
 use Rattle.report_text.specs.AnswerLaws.{word-read, word-rest, member-read, member-text, step-read}
-use Rattle.report_text.specs.ReportText.{isSame, Printable, ReportWritten}
-
--- ---- members stand at their places
-apart : (set : List Configuration) → Ascends configurationOrder set → (d : Configuration) (i j : ℕ) → i < j → j < length set
-    → getD set i d ≡ getD set j d → ⊥
-apart set asc d i j h l e =
-    configurationOrder .irreflexive (getD set j d)
-    (subst (λ (p : Configuration). configurationBefore p (getD set j d) ≡ true) e (ascends-places configurationOrder set asc i j d h l))
-
--- the place of the i-th member of an ascending set is i
-pub place-of-member : (set : List Configuration) → Ascends configurationOrder set → (d : Configuration) (i : ℕ) → i < length set
-    → placeOf set (getD set i d) ≡ i
-place-of-member set asc d i l =
-    let p : Configuration = getD set i d in
-    let j : ℕ = placeOf set p in
-    let k : j < length set = placeOf-lt set p (getD-in set i d l) in
-    go j k (getD-any set j d p k ∙ placeOf-at set p (getD-in set i d l)) (tested (ltb j i)) (tested (ltb i j))
-  where
-    go : (j : ℕ) → j < length set → getD set j d ≡ getD set i d → Tested (ltb j i) → Tested (ltb i j) → j ≡ i
-    go j b e (passes y) t = absurd (apart set asc d j i (ltb-true j i y) l e)
-    go j b e (fails y) (passes z) = absurd (apart set asc d i j (ltb-true i j z) b (sym e))
-    go j b e (fails y) (fails z) = omega (arith, ltb-false j i y, ltb-false i j z)
+use Rattle.report_text.specs.ReportText.{isSame, ReportWritten}
 
 -- what a list of members or of steps is to have beyond its end, which is never read
 abbrev no-member : Configuration
@@ -70,7 +45,7 @@ five-same : {a b c d e a' b' c' d' e' : List ℕ} → a ≡ a' → b ≡ b' → 
 five-same p q r s t = cc
 
 -- ---- the text of an answer that begins with a report's bytes
-module _ (q : Report) (fit : Printable q) (answer : List ℕ) (begins : take (reportLength q) answer ≡ reportBytes q) where
+module _ (q : Report) (fit : Fitting q) (answer : List ℕ) (begins : take (reportLength q) answer ≡ reportBytes q) where
   -- the report's members, its steps, and the class of a member
   abbrev set : List Configuration
   set = q .members
@@ -152,7 +127,7 @@ module _ (q : Report) (fit : Printable q) (answer : List ℕ) (begins : take (re
       → (stepText answer at ≡ stepLine set (getD steps i no-step)) × (stepEnd at ≡ at + length (stepBytes set (getD steps i no-step)))
   each-step i at more l h =
       let t : TrailStep = getD steps i no-step in
-      step-read answer at set t more h (omega (arith, fit .few-members)) (fit .labels t (getD-in steps i no-step l))
+      step-read answer at set t more h (omega (arith, fit .few-members)) (fit .steps t (getD-in steps i no-step l) .label)
 
   steps-are : stepsText answer (trailPlace answer + 2) (length steps) ≡ concatMap (stepLine set) steps
   steps-are =

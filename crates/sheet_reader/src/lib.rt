@@ -60,7 +60,10 @@ pub fn read_sheet(s: &[u8]) -> SheetRead
     let Section::Got(node_count, t) = h else {
         return no_sheet(h);
     };
-    let z = start_reader::starts_at(s, facts, &rules, rule_count, y, node_count, t);
+    let opened = y.opened;
+    let counts = opened.counts;
+    let table = opened.threads;
+    let z = start_reader::starts_at(s, facts, &rules, rule_count, &counts, &table, node_count, t);
     let k = z.answer;
     let Section::Got(start_count, end) = k else {
         return no_sheet(k);
@@ -69,7 +72,6 @@ pub fn read_sheet(s: &[u8]) -> SheetRead
         return no_sheet(Section::Refused(13, end));
     }
     let nodes = y.nodes;
-    let opened = y.opened;
     let starts = z.starts;
     SheetRead {
         answer: Section::Got(start_count, end),

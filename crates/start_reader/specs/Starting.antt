@@ -11,8 +11,7 @@ use Rattle.lists.specs.SortingLaws.{concatMap-next}
 use Rattle.stores.specs.Stores.{Rule, closure}
 use Rattle.sheets.specs.Limits.{maxThreads, maxNodes}
 use Rattle.sheets.specs.Sheet.{Node, opened, openedAll}
-use Rattle.sheets.specs.Sheet as spec
-use Rattle.sheets.specs.Reading.{Reading, got, refused, setAt, countAt, threadsFrom, startAt}
+use Rattle.sheets.specs.Reading.{got, refused, setAt, countAt, threadsFrom, startAt}
 use Rattle.sheets.specs.SectionLaws.{start-no-threads, start-many, start-few}
 use Rattle.held.specs.Held.{openedIn, OpenedHeld, configuration, startRead}
 use Rattle.held.specs.AnswerLaws.{refused-with, refused-never}
@@ -20,7 +19,7 @@ use Rattle.held.specs.declared.Section.the-variants.{Got, Refused}
 use Rattle.held.specs.declared.Opened.{Opened}
 use Rattle.held.specs.declared.StartRead.{StartRead}
 use Rattle.held.specs.declared.ThreadsRead.{ThreadsRead}
-use Rattle.opening.specs.Table.{OpenedTable}
+use Rattle.opening.specs.Table.{OpenedTable, Few}
 use Rattle.start_reader.specs.declared.OpenedThreads.{OpenedThreads}
 use Rattle.start_reader.specs.Threads.{Below, ThreadsFound, threads-got, threads-not}
 use Rattle.start_reader.specs.Opening.{NodesIn, threadsOfFirst, ThreadsOpened}
@@ -42,57 +41,67 @@ first-opened ns o ks (suc n) held below l =
     ∙ sym (ap (concatMap (opened ns)) one)
 
 -- ---- what the reader of a start finds
-pub record StartFound (m : Reading spec.Configuration) (s : List ℕ) (r : StartRead) : Type 0 where
-  pub reading : startRead r ≡ m
+
+-- so many nodes, and this is the table of what they open to
+pub record TableOf (n : ℕ) (o : Opened) (ns : List Node) : Type 0 where
+  pub long : length ns ≡ n
+  pub table : OpenedTable ns o
+
+-- the start of document 01, whatever the nodes are whose table it was read with
+pub record StartFound (facts : ℕ) (rules : List Rule) (nodes : ℕ) (o : Opened) (s : List ℕ) (at : ℕ) (r : StartRead) : Type 0 where
+  pub reading : (ns : List Node) → TableOf nodes o ns → startRead r ≡ startAt facts rules ns s at
   pub held : (v next : ℕ) → r .answer ≡ Got v next → (next ≤ length s) × (r .start .count ≤ maxThreads)
 
-pub start-refused : (m : Reading spec.Configuration) (s : List ℕ) (r : StartRead) {number place : ℕ} → r .answer ≡ Refused number place
-    → m ≡ refused number place → StartFound m s r
-start-refused m s r a e = record { reading = refused-with (λ _. configuration (r .start)) a ∙ sym e; held = λ v next g. refused-never a g }
+module _ (facts : ℕ) (rules : List Rule) (nodes : ℕ) (o : Opened) (s : List ℕ) (at : ℕ) where
+  pub start-refused : (r : StartRead) {number place : ℕ} → r .answer ≡ Refused number place
+      → ((ns : List Node) → TableOf nodes o ns → startAt facts rules ns s at ≡ refused number place) → StartFound facts rules nodes o s at r
+  start-refused r a e =
+      record {
+        reading = λ ns of. refused-with (λ _. configuration (r .start)) a ∙ sym (e ns of);
+        held = λ v next g. refused-never a g;
+      }
 
--- ---- with the table of the nodes
-module _ (facts : ℕ) (rules : List Rule) (ns : List Node) (nodes : ℕ) (long : length ns ≡ nodes) (s : List ℕ) (at : ℕ) where
   pub threads-refused : {c p n q : ℕ} → setAt facts s at ≡ got c p → countAt 0 maxThreads 12 s p ≡ got n q
       → (read : ThreadsRead) → ThreadsFound n nodes s q read → {number place : ℕ} → read .answer ≡ Refused number place
-      → startAt facts rules ns s at ≡ refused number place
-  threads-refused {n = n} {q = q} e f read found a =
-      start-no-threads facts rules ns s at e f (ap (λ (k : ℕ). threadsFrom n k s q) long ∙ threads-not found a)
+      → (ns : List Node) → TableOf nodes o ns → startAt facts rules ns s at ≡ refused number place
+  threads-refused {n = n} {q = q} e f read found a ns of =
+      start-no-threads facts rules ns s at e f (ap (λ (k : ℕ). threadsFrom n k s q) (of .long) ∙ threads-not found a)
 
-  module _ (o : Opened) (table : OpenedTable ns o) {n q : ℕ} (read : ThreadsRead) (found : ThreadsFound n nodes s q read)
-      {m next : ℕ} (a : read .answer ≡ Got m next) where
-    below : Below (length ns) (read .threads) n
-    below = rw long (found .held m next a .below)
-
+  module _ {n q : ℕ} (read : ThreadsRead) (found : ThreadsFound n nodes s q read) {m next : ℕ} (a : read .answer ≡ Got m next) where
     -- nodes of the table
-    pub table-nodes : nodes ≤ maxNodes → NodesIn (o .counts) (read .threads) n
-    table-nodes few =
+    pub table-nodes : Few o nodes → nodes ≤ maxNodes → NodesIn (o .counts) (read .threads) n
+    table-nodes few small =
+        let below = found .held m next a .below in
         record {
           node = λ j l. omega (arith, below .at j l);
-          few = λ j l. table .few .at (getD (read .threads) j 0) (below .at j l);
+          few = λ j l. few .at (getD (read .threads) j 0) (below .at j l);
         }
 
     module _ {c p : ℕ} (e : setAt facts s at ≡ got c p) (f : countAt 0 maxThreads 12 s p ≡ got n q)
         (t : OpenedThreads) (threads : ThreadsOpened o (read .threads) n t) where
-      all : sortUp (threadsOfFirst o (read .threads) n) ≡ openedAll ns (take n (read .threads))
-      all = ap sortUp (first-opened ns o (read .threads) n (table .holds) below (found .held m next a .room))
+      module _ (ns : List Node) (of : TableOf nodes o ns) where
+        all : sortUp (threadsOfFirst o (read .threads) n) ≡ openedAll ns (take n (read .threads))
+        all =
+            let below : Below (length ns) (read .threads) n = rw (of .long) (found .held m next a .below) in
+            ap sortUp (first-opened ns o (read .threads) n (of .table .holds) below (found .held m next a .room))
 
-      count : t .count ≡ length (openedAll ns (take n (read .threads)))
-      count = threads .count ∙ sym (sortUp-length (threadsOfFirst o (read .threads) n)) ∙ ap length all
+        count : t .count ≡ length (openedAll ns (take n (read .threads)))
+        count = threads .count ∙ sym (sortUp-length (threadsOfFirst o (read .threads) n)) ∙ ap length all
 
-      were-read : threadsFrom n (length ns) s q ≡ got (take n (read .threads)) next
-      were-read = ap (λ (k : ℕ). threadsFrom n k s q) long ∙ threads-got found a
+        were-read : threadsFrom n (length ns) s q ≡ got (take n (read .threads)) next
+        were-read = ap (λ (k : ℕ). threadsFrom n k s q) (of .long) ∙ threads-got found a
 
-      pub opened-many : maxThreads < t .count → startAt facts rules ns s at ≡ refused 12 p
-      opened-many h = start-many facts rules ns s at e f were-read (rw (sym count) h)
+      pub opened-many : maxThreads < t .count → (ns : List Node) → TableOf nodes o ns → startAt facts rules ns s at ≡ refused 12 p
+      opened-many h ns of = start-many facts rules ns s at e f (were-read ns of) (rw (sym (count ns of)) h)
 
       pub opened-few : t .count ≤ maxThreads → (store v : ℕ) → store ≡ closure rules c
-          → StartFound (startAt facts rules ns s at) s
+          → StartFound facts rules nodes o s at
           (record { answer = Got v next; start = record { store = store; count = t .count; threads = t .threads } })
       opened-few h store v closed =
           record {
-            reading =
-                ap₂ (λ (d : ℕ) (ts : List ℕ). got (record { store = d; threads = ts }) next) closed (threads .threads h ∙ all)
-                ∙ sym (start-few facts rules ns s at e f were-read (rw (sym count) h));
+            reading = λ ns of.
+                ap₂ (λ (d : ℕ) (ts : List ℕ). got (record { store = d; threads = ts }) next) closed (threads .threads h ∙ all ns of)
+                ∙ sym (start-few facts rules ns s at e f (were-read ns of) (rw (sym (count ns of)) h));
             held = λ w end b. same w end b;
           }
         where

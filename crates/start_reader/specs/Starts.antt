@@ -19,9 +19,10 @@ use Rattle.held.specs.Held.{configuration, noConfiguration, startsIn, startsRea
 use Rattle.held.specs.AnswerLaws.{refused-with, refused-never}
 use Rattle.held.specs.declared.Section.the-variants.{Got, Refused}
 use Rattle.held.specs.declared.Configuration.{Configuration}
+use Rattle.held.specs.declared.Opened.{Opened}
 use Rattle.held.specs.declared.StartRead.{StartRead}
 use Rattle.held.specs.declared.StartsRead.{StartsRead}
-use Rattle.start_reader.specs.Starting.{StartFound}
+use Rattle.start_reader.specs.Starting.{TableOf, StartFound}
 
 -- each of the first n starts has at most eight threads
 pub record FewThreads (starts : List Configuration) (n : ℕ) : Type 0 where
@@ -33,13 +34,23 @@ pub record StartsHeld (s : List ℕ) (r : StartsRead) (n next : ℕ) : Type 0 wh
   pub few : n ≤ maxStarts
   pub threads : FewThreads (r .starts) n
 
-pub record StartsFound (m : Reading (List spec.Configuration)) (s : List ℕ) (r : StartsRead) : Type 0 where
-  pub reading : startsRead r ≡ m
+-- the starts, whatever the nodes are whose table they were read with
+pub record StartsFound (m : List Node → Reading (List spec.Configuration)) (nodes : ℕ) (o : Opened) (s : List ℕ) (r : StartsRead) : Type 0 where
+  pub reading : (ns : List Node) → TableOf nodes o ns → startsRead r ≡ m ns
   pub held : (n next : ℕ) → r .answer ≡ Got n next → StartsHeld s r n next
 
-pub starts-refused : (m : Reading (List spec.Configuration)) (s : List ℕ) (r : StartsRead) {number place : ℕ} → r .answer ≡ Refused number place
-    → m ≡ refused number place → StartsFound m s r
-starts-refused m s r a e = record { reading = refused-with (startsIn (r .starts)) a ∙ sym e; held = λ n next g. refused-never a g }
+pub starts-refused : (m : List Node → Reading (List spec.Configuration)) (nodes : ℕ) (o : Opened) (s : List ℕ) (r : StartsRead) {number place : ℕ}
+    → r .answer ≡ Refused number place → ((ns : List Node) → TableOf nodes o ns → m ns ≡ refused number place) → StartsFound m nodes o s r
+starts-refused m nodes o s r a e =
+    record {
+      reading = λ ns of. refused-with (startsIn (r .starts)) a ∙ sym (e ns of);
+      held = λ n next g. refused-never a g;
+    }
+
+-- what was found, of another name for the reading
+pub starts-as : (m k : List Node → Reading (List spec.Configuration)) (nodes : ℕ) (o : Opened) (s : List ℕ) (r : StartsRead)
+    → ((ns : List Node) → k ns ≡ m ns) → StartsFound m nodes o s r → StartsFound k nodes o s r
+starts-as m k nodes o s r e found = record { reading = λ ns of. found .reading ns of ∙ sym (e ns); held = found .held }
 
 -- the starts with one more are those before, and that one
 starts-with : (cs : List Configuration) (i : ℕ) (c : Configuration) → i < length cs → startsIn (set cs i c) (i + 1) ≡ startsIn cs i ++ (configuration c ∷ [])
@@ -55,38 +66,40 @@ abbrev pub startItem : ℕ → List Rule → List Node → List ℕ → List spe
 startItem facts rules ns s read p = startAt facts rules ns s p
 
 -- i starts are read up to p, and what is left to read gives what the whole gives
-pub record StartsSoFar (facts : ℕ) (rules : List Rule) (ns : List Node) (n : ℕ) (s : List ℕ) (at i p : ℕ) (starts : List Configuration) : Type 0 where
-  pub rest : recordsFrom (startItem facts rules ns s) (n - i) (startsIn starts i) p ≡ recordsFrom (startItem facts rules ns s) n [] at
+pub record StartsSoFar (facts : ℕ) (rules : List Rule) (nodes : ℕ) (o : Opened) (n : ℕ) (s : List ℕ) (at i p : ℕ) (starts : List Configuration) : Type 0 where
+  pub rest : (ns : List Node) → TableOf nodes o ns
+      → recordsFrom (startItem facts rules ns s) (n - i) (startsIn starts i) p ≡ recordsFrom (startItem facts rules ns s) n [] at
   pub threads : FewThreads starts i
 
-module _ (facts : ℕ) (rules : List Rule) (ns : List Node) (n : ℕ) (s : List ℕ) (at : ℕ) where
-  pub starts-none : (starts : List Configuration) → StartsSoFar facts rules ns n s at 0 at starts
+module _ (facts : ℕ) (rules : List Rule) (nodes : ℕ) (o : Opened) (n : ℕ) (s : List ℕ) (at : ℕ) where
+  pub starts-none : (starts : List Configuration) → StartsSoFar facts rules nodes o n s at 0 at starts
   starts-none starts =
       let z : n - 0 ≡ n = omega arith in
       record {
-        rest = rw (z, tabulate-none (λ j. configuration (getD starts j noConfiguration)));
+        rest = λ ns of. rw (z, tabulate-none (λ j. configuration (getD starts j noConfiguration)));
         threads = record { at = λ j l. absurd (omega arith) };
       }
 
-  module _ (i p : ℕ) (starts : List Configuration) (sofar : StartsSoFar facts rules ns n s at i p starts) where
-    module _ (l : i < n) (r : StartRead) (found : StartFound (startAt facts rules ns s p) s r) where
+  module _ (i p : ℕ) (starts : List Configuration) (sofar : StartsSoFar facts rules nodes o n s at i p starts) where
+    module _ (l : i < n) (r : StartRead) (found : StartFound facts rules nodes o s p r) where
       pub starts-stopped : {number place : ℕ} → r .answer ≡ Refused number place
-          → StartsFound (recordsFrom (startItem facts rules ns s) n [] at) s (record { answer = r .answer; starts = starts })
+          → StartsFound (λ ns. recordsFrom (startItem facts rules ns s) n [] at) nodes o s (record { answer = r .answer; starts = starts })
       starts-stopped {number} {place} a =
-          starts-refused (recordsFrom (startItem facts rules ns s) n [] at) s (record { answer = r .answer; starts = starts }) a
-          (sym (sofar .rest)
+          starts-refused (λ ns. recordsFrom (startItem facts rules ns s) n [] at) nodes o s (record { answer = r .answer; starts = starts }) a
+          (λ ns of.
+          sym (sofar .rest ns of)
           ∙ records-refused (startItem facts rules ns s) n i (startsIn starts i) p number place l
-          (sym (found .reading) ∙ refused-with (λ _. configuration (r .start)) a))
+          (sym (found .reading ns of) ∙ refused-with (λ _. configuration (r .start)) a))
 
       pub starts-next : {v next : ℕ} → r .answer ≡ Got v next → i < length starts
-          → StartsSoFar facts rules ns n s at (i + 1) next (set starts i (r .start)) × (next ≤ length s)
+          → StartsSoFar facts rules nodes o n s at (i + 1) next (set starts i (r .start)) × (next ≤ length s)
       starts-next {v} {next} a room = (
         record {
-          rest =
+          rest = λ ns of.
               ap (λ (xs : List spec.Configuration). recordsFrom (startItem facts rules ns s) (n - (i + 1)) xs next) (starts-with starts i (r .start) room)
               ∙ sym (records-next (startItem facts rules ns s) n i (startsIn starts i) p next (configuration (r .start)) l
-              (sym (found .reading) ∙ ap (answerWith (λ _. configuration (r .start))) a))
-              ∙ sofar .rest;
+              (sym (found .reading ns of) ∙ ap (answerWith (λ _. configuration (r .start))) a))
+              ∙ sofar .rest ns of;
           threads = record { at = λ j m. go j m (eqb j i) refl };
         },
         found .held v next a .0,
@@ -99,13 +112,13 @@ module _ (facts : ℕ) (rules : List Rule) (ns : List Node) (n : ℕ) (s : List 
               rw (getD-set-other starts i j (r .start) noConfiguration other) (sofar .threads .at j (omega (arith, other)))
 
     pub starts-end : i ≡ n → minStarts ≤ n → n ≤ maxStarts → p ≤ length s
-        → StartsFound (recordsFrom (startItem facts rules ns s) n [] at) s (record { answer = Got n p; starts = starts })
+        → StartsFound (λ ns. recordsFrom (startItem facts rules ns s) n [] at) nodes o s (record { answer = Got n p; starts = starts })
     starts-end e some few within =
         record {
-          reading =
+          reading = λ ns of.
               ap (λ (m : ℕ). got (startsIn starts m) p) (sym e)
               ∙ sym (records-none (startItem facts rules ns s) n i (startsIn starts i) p (omega arith))
-              ∙ sofar .rest;
+              ∙ sofar .rest ns of;
           held = λ m next g. same m next g;
         }
       where

@@ -176,9 +176,7 @@ fn put_step(w: &mut [u32], k: usize, side: u32, number: u32, reply: u32)
     requires { ⌜ (k ≤ 512) × (workEnd ≤ length (now w)) ⌝ }
     ensures { λ _. ⌜ now (w .exit) ≡ stepStored (now (w .entry)) k side number reply ⌝ }
 {
-    w[STEPS + 3 * k] = side;
-    w[STEPS + 3 * k + 1] = number;
-    w[STEPS + 3 * k + 2] = reply;
+    number_lists::put_three(w, STEPS + 3 * k, side, number, reply);
 }
 
 // The place of the one that replies.

@@ -9,7 +9,7 @@ use native.Mathlib.Nat.{pow-le-pow-right}
 use lib.ListN.{length, getD}
 use lib.Dec.{ltb}
 use borrow.Author.Tests.{ltb-true, ltb-false}
-use Rattle.lists.specs.Frames.{SameOutside, outside-then, outside-again}
+use Rattle.lists.specs.Frames.{SameOutside, outside-same, outside-then, outside-again}
 use Rattle.lists.specs.Tables.{tabulate-at, tabulate-none}
 use Rattle.lists.specs.Tabulated.{tabulate-mem}
 use Rattle.sheets.specs.Sheet.{Node, Configuration}
@@ -33,7 +33,7 @@ use Rattle.walks.specs.declared.Basis.{Basis}
 use Rattle.walks.specs.declared.Walk.{Walk}
 use Rattle.walks.specs.Walking.{NodeFits, Entry, Walking, Held, HeldBelow, Covering, OnSheet, Carried, TurnOn, TurnOver}
 use Rattle.visiting.specs.declared.Marked.{Marked}
-use Rattle.visiting.specs.Visits.{marksOf, MarkedAs}
+use Rattle.visiting.specs.Visits.{marksOf, SeenAs, MarkedAs}
 
 -- ---- marks
 -- entered among the marks there were
@@ -42,12 +42,9 @@ pub entered-marks : {v w : List ℕ} {n : ℕ} {p : Configuration} {id m at : �
     → MarkedAs v n p w (record { fresh = ltb n m; marks = m })
 entered-marks {v} {w} {n} {p} {id} {m} {at} k e o =
     record {
-      kept = e .kept;
+      seen = record { kept = e .kept; only = λ x i. entered-only k e i; known = λ t. marked t (e .fresh); outside = o };
       itself = entered-itself k e;
-      only = λ x i. entered-only k e i;
       new = λ t i. unmarked t i (e .fresh);
-      known = λ t. marked t (e .fresh);
-      outside = o;
     }
   where
     unmarked : ltb n m ≡ true → List·Memᴰ p (marksOf v n)
@@ -74,6 +71,9 @@ forgotten-kept {w = w} k q = kept-none w (omega (arith, ap (λ (l : List ℕ). l
 pub never-full : _≡_ {A = ℕ} 0 512 → ⊥
 never-full q = omega arith
 
+true-not-false : true ≡ false → ⊥
+true-not-false t = let z : _≡_ {A = ℕ} 0 1 = cc in omega arith
+
 -- where there is no room all marks are forgotten, and then this one is made
 pub forgotten-marks : {u v w : List ℕ} {n : ℕ} {p : Configuration} {id m at : ℕ} → (List·Memᴰ p (marksOf u n) → ⊥)
     → Kept (partAt v marksAt) 0 → EnteredIn (partAt v marksAt) 0 512 p (partAt w marksAt) id m at
@@ -81,20 +81,24 @@ pub forgotten-marks : {u v w : List ℕ} {n : ℕ} {p : Configuration} {id m at 
     → MarkedAs u n p w (record { fresh = true; marks = m })
 forgotten-marks {u} {v} {w} {n} {p} none k e o q =
     record {
-      kept = e .kept;
+      seen = record {
+        kept = e .kept;
+        only = λ x i.
+            ⊎-elim (λ (z : x ≡ p). inl z)
+            (λ (z : List·Memᴰ x (marksOf v 0)).
+            absurd (List·Memᴰ·not-nil (subst (List·Memᴰ x) (tabulate-none (memberIn (partAt v marksAt))) z)))
+            (entered-only k e i);
+        known = λ t. absurd (true-not-false t);
+        outside = outside-again o q;
+      };
       itself = entered-itself k e;
-      only = λ x i.
-          ⊎-elim (λ (z : x ≡ p). inl z)
-          (λ (z : List·Memᴰ x (marksOf v 0)).
-          absurd (List·Memᴰ·not-nil (subst (List·Memᴰ x) (tabulate-none (memberIn (partAt v marksAt))) z)))
-          (entered-only k e i);
       new = λ t i. none i;
-      known = λ t. absurd (apart t);
-      outside = outside-again o q;
     }
-  where
-    apart : true ≡ false → ⊥
-    apart t = let z : _≡_ {A = ℕ} 0 1 = cc in omega arith
+
+-- a node that is taken as new and not marked
+pub unmarked-seen : {v : List ℕ} {n : ℕ} {p : Configuration} → Kept (partAt v marksAt) n → SeenAs v n p v (record { fresh = true; marks = n })
+unmarked-seen {v} k =
+    record { kept = k; only = λ x i. inr i; known = λ t. absurd (true-not-false t); outside = outside-same marksAt (marksAt + 2048) v }
 
 -- ---- the table of closures
 -- a sheet stays that of the slice where nothing is changed before the moves in hand
@@ -110,13 +114,13 @@ grown-sheet {b} {v} {w} k o h =
           closures-agree (h .closures) (λ i l. o .at i (inl (omega (arith, sets-few (b .facts) (k .shelf-room .few)))));
     }
 
--- ---- a node marked that was taken out
+-- ---- a node looked for among the marks that was taken out
 -- the walk with so many marks and nodes to visit
 abbrev pub unstacked : Walk → ℕ → ℕ → Walk
 unstacked s marks n = record { running = s .running; shelf = s .shelf; marks = marks; top = n }
 
 module _ {b : Basis} {v : List ℕ} {s : Walk} (k : Walking v b s) (n : ℕ) (last : n + 1 ≡ s .top) {w : List ℕ} {r : Marked}
-    (a : MarkedAs v (s .marks) (pendingOne v n) w r) where
+    (a : SeenAs v (s .marks) (pendingOne v n) w r) where
   abbrev e : Configuration
   e = pendingOne v n
 

@@ -26,7 +26,7 @@ use Rattle.walks.specs.Walking.{NodesLent, NodeFits, Walking, Held, Covering, O
 use Rattle.walks.specs.NotedLaws.{noted-none, noted-turn}
 use Rattle.part_visits.specs.Parts.{NodeKnown}
 use Rattle.visiting.specs.declared.Marked.{Marked}
-use Rattle.visiting.specs.Visits.{MarkedAs, WalkedOn}
+use Rattle.visiting.specs.Visits.{SeenAs, WalkedOn}
 use Rattle.visiting.specs.MarkLaws.{grown-sheet, unstacked, last-entry, marked-walking, marked-turn, marked-turn-over, passed-turn}
 
 -- ---- a node by its kind byte and its fields
@@ -84,11 +84,11 @@ stop-turn {b} {v} {s} {e} k nodes low l q =
     (subst (λ (ns : List Node). e .store < length ns) (sym (o .nodes-are)) l)
     (ap (λ (ns : List Node). nodeOf ns (e .store)) (o .nodes-are) ∙ q))
 
--- ---- the last node to visit, taken out and marked
+-- ---- the last node to visit, taken out and looked for among the marks
 module _ {b : Basis} {v : List ℕ} {s : Walk} (k : Walking v b s) (n : ℕ) (last : n + 1 ≡ s .top) {w : List ℕ} {r : Marked}
-    (x : Configuration) (is : x ≡ pendingOne v n) (a : MarkedAs v (s .marks) x w r) where
-  there : MarkedAs v (s .marks) (pendingOne v n) w r
-  there = subst (λ (z : Configuration). MarkedAs v (s .marks) z w r) is a
+    (x : Configuration) (is : x ≡ pendingOne v n) (a : SeenAs v (s .marks) x w r) where
+  there : SeenAs v (s .marks) (pendingOne v n) w r
+  there = subst (λ (z : Configuration). SeenAs v (s .marks) z w r) is a
 
   pub taken-walking : Walking w b (unstacked s (r .marks) n)
   taken-walking = marked-walking k n last there

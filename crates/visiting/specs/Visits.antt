@@ -22,14 +22,19 @@ use Rattle.visiting.specs.declared.Marked.{Marked}
 abbrev pub marksOf : List ℕ → ℕ → List Configuration
 marksOf w n = membersIn (partAt w marksAt) n
 
--- of n marks in v, p marked gives the marks in w: p and none that was not there; p is fresh where it was not marked
-pub record MarkedAs (v : List ℕ) (n : ℕ) (p : Configuration) (w : List ℕ) (r : Marked) : Type 0 where
+-- p was looked for among the n marks in v: the marks in w are those, some of them or none, and perhaps p; p is passed over only
+-- where it was marked
+pub record SeenAs (v : List ℕ) (n : ℕ) (p : Configuration) (w : List ℕ) (r : Marked) : Type 0 where
   pub kept : Kept (partAt w marksAt) (r .marks)
-  pub itself : List·Memᴰ p (marksOf w (r .marks))
   pub only : (x : Configuration) → List·Memᴰ x (marksOf w (r .marks)) → (x ≡ p) ⊎ List·Memᴰ x (marksOf v n)
-  pub new : r .fresh ≡ true → List·Memᴰ p (marksOf v n) → ⊥
   pub known : r .fresh ≡ false → List·Memᴰ p (marksOf v n)
   pub outside : SameOutside marksAt (marksAt + 2048) v w
+
+-- p was marked, too, and is passed over exactly where it was marked before
+pub record MarkedAs (v : List ℕ) (n : ℕ) (p : Configuration) (w : List ℕ) (r : Marked) : Type 0 where
+  pub seen : SeenAs v n p w r
+  pub itself : List·Memᴰ p (marksOf w (r .marks))
+  pub new : r .fresh ≡ true → List·Memᴰ p (marksOf v n) → ⊥
 
 -- no node is left to visit: all is in order, nothing is lost, and what was in hand is collected
 pub record WalkedOn (nodes : List Node) (b : Basis) (v : List ℕ) (s : Walk) (w : List ℕ) (t : Walk) : Type 0 where

@@ -6,16 +6,18 @@ use walks::Basis;
 use walks::Walk;
 use walks::Walked;
 use work_places::MARKS;
+use work_places::PENDING;
 ghost use mathlib.Core.Path.{_≡_};
 ghost use mathlib.Core.List.{[], _∷_};
 ghost use Prim.Native.Nat.{_+_, _≤_, _<_};
+ghost use lib.ListN.{length};
 ghost use Rattle.packing.specs.Packing.{standsFor, PackedIn};
 ghost use Rattle.members.specs.Layout.{partAt, Kept};
 ghost use Rattle.held.specs.Held.{configuration};
 ghost use Rattle.movability.specs.Movability.{nodesHeld};
-ghost use Rattle.work_places.specs.WorkPlaces.{marksAt};
+ghost use Rattle.work_places.specs.WorkPlaces.{marksAt, pendingEnd};
 ghost use Rattle.walks.specs.Walking.{NodesLent, NodeFits, Walking, Turned};
-ghost use Rattle.visiting.specs.Visits.{MarkedAs, WalkedAs};
+ghost use Rattle.visiting.specs.Visits.{SeenAs, MarkedAs, WalkedAs};
 
 // Whether a node with threads beside it is visited for the first time, and how many were visited.
 pub struct Marked {
@@ -46,6 +48,31 @@ fn mark(w: &mut [u32], marks: usize, x: Numbers) -> Marked
         fresh: marks < n,
         marks: n,
     }
+}
+
+// Whether the entry below, if there is one, has other threads. Any answer would do: it chooses what is marked.
+fn alone(w: &[u32], top: usize, x: Numbers) -> bool
+    requires { ⌜ (top ≤ 64) × (pendingEnd ≤ length (now w)) ⌝ }
+{
+    if top == 0 {
+        return true;
+    }
+    w[PENDING + 3 * top - 2] != x.b || w[PENDING + 3 * top - 1] != x.c
+}
+
+// A node that is made of others and alone with its threads among those to visit is marked. Any other is taken as new: with the
+// same threads it comes up once.
+fn see(w: &mut [u32], kind: u8, marks: usize, top: usize, x: Numbers) -> Marked
+    requires { ⌜ Kept (partAt (now w) marksAt) marks × PackedIn x × (top ≤ 64) × (pendingEnd ≤ length (now w)) ⌝ }
+    ensures { λ r. ⌜ SeenAs (now (w .entry)) marks (standsFor x) (now (w .exit)) r ⌝ }
+{
+    if kind < 3 {
+        return Marked { fresh: true, marks };
+    }
+    if !alone(w, top, x) {
+        return Marked { fresh: true, marks };
+    }
+    mark(w, marks, x)
 }
 
 // The node of e by its kind.
@@ -108,7 +135,9 @@ fn visit(
 {
     let top = s.top - 1;
     let x = pending::pending_at(w, top);
-    let m = mark(w, s.marks, x);
+    let e = held::configuration_of(x);
+    let kind = kinds[e.store as usize];
+    let m = see(w, kind, s.marks, top, x);
     let running = s.running;
     let shelf = s.shelf;
     let t = Walk {
@@ -120,7 +149,6 @@ fn visit(
     if !m.fresh {
         return Walked::On(t);
     }
-    let e = held::configuration_of(x);
     visit_kind(
         w,
         kinds,

@@ -1,17 +1,18 @@
 -- Nodes stored to be visited while nothing else changes: all stays in order, what was there stays, and where the nodes stored
 -- give together the moves of one node that was taken out, nothing in hand is lost and less is left to do.
-use mathlib.Core.Path.{_≡_, refl, sym, ap, _∙_, subst}
+use mathlib.Core.Path.{_≡_, refl, sym, ap, ap₂, _∙_, subst}
 use mathlib.Core.Logic.{_⊎_, inl, inr, ⊎-elim}
 use mathlib.Core.Bool.{Bool, true, false}
 use mathlib.Core.List.{List, [], _∷_, _++_, append-nil, append-assoc, List·Memᴰ, List·Memᴰ·head, List·Memᴰ·not-nil, List·Memᴰ·append-cases, List·Memᴰ·eq-of-singleton, Memᴰ·append-left, Memᴰ·append-right}
-use Prim.Native.Nat.{ℕ, zero, suc, _+_, _≤_, _<_}
+use Prim.Native.Nat.{ℕ, zero, suc, _+_, _-_, _^_, _≤_, _<_}
 use native.Mathlib.Omega.{arith}
 use lib.ListN.{length, getD}
-use lib.Dec.{eqb}
-use borrow.Author.Tests.{eqb-true, eqb-false}
+use lib.Dec.{eqb, ltb}
+use borrow.Author.Tests.{eqb-true, eqb-false, ltb-true, ltb-false}
 use Rattle.lists.specs.Ascending.{sortUp, sortUp-only, sortUp-notFalling}
 use Rattle.lists.specs.Frames.{SameOutside, outside-same, outside-wider, outside-again}
-use Rattle.lists.specs.Tables.{tabulate-at}
+use Rattle.lists.specs.Tables.{tabulate, tabulate-at, tabulate-next, tabulate-same}
+use Rattle.lists.specs.Tabulated.{mem-tabulate, tabulate-mem}
 use Rattle.sheets.specs.Sheet.{Node, stop, tell, ask, both, either, Configuration, Sheet, nodeOf, openingOf, openWithin, opened}
 use Rattle.sheets.specs.OpeningLaws.{LowerNames, Lower}
 use Rattle.moves.specs.Orders.{Move}
@@ -27,8 +28,8 @@ use Rattle.collecting.specs.Collected.{Grown, membersOf, movesOf}
 use Rattle.collecting.specs.CollectedFrames.{members-outside, moves-outside, collecting-outside, grown-outside}
 use Rattle.gathering.specs.Gathered.{Growth, InHand}
 use Rattle.gathering.specs.GatheredLaws.{gathered-same}
-use Rattle.pending.specs.PendingNodes.{PendingPacked, pendingOne, pendingIn, Pushed}
-use Rattle.pending.specs.PendingLaws.{pushed-below, pushed-all, pushed-packed, weight, weight-append}
+use Rattle.pending.specs.PendingNodes.{PendingPacked, pendingOne, pendingIn, Pushed, PutAmong, Entered, there, put}
+use Rattle.pending.specs.PendingLaws.{pushed-below, pushed-packed, weight, weight-none, weight-append, weight-next}
 use Rattle.walks.specs.declared.Basis.{Basis}
 use Rattle.walks.specs.declared.Walk.{Walk}
 use Rattle.walks.specs.Walking.{ThreadsFit, NodeFits, Entry, Walking, Held, HeldBelow, Covering, Carried, TurnOn}
@@ -70,24 +71,139 @@ threads-joined {b} {ts} ns low k l fit few =
     }
 
 -- ---- nodes stored
+-- a node put in among others adds its weight
+module _ (f g : ℕ → Configuration) (k : ℕ) (x : Configuration) (below : (i : ℕ) → i < k → g i ≡ f i) (here : g k ≡ x) where
+  put-last : (n : ℕ) → k ≡ n → weight (tabulate g (n + 1)) ≡ weight (tabulate f n) + 3 ^ (x .store + 1)
+  put-last n e =
+      ap weight (tabulate-next g n) ∙ weight-next (tabulate g n) (g n)
+      ∙ ap₂ (λ (l : List Configuration) (y : Configuration). weight l + 3 ^ (y .store + 1))
+      (tabulate-same g f n (λ i l. below i (omega arith))) (ap g (sym e) ∙ here)
+
+  put-weight : (n : ℕ) → k ≤ n → ((i : ℕ) → k ≤ i → i < n → g (i + 1) ≡ f i)
+      → weight (tabulate g (n + 1)) ≡ weight (tabulate f n) + 3 ^ (x .store + 1)
+  put-weight zero h above = put-last 0 (omega arith)
+  put-weight (suc m) h above = go (put-weight m) (eqb k (suc m)) refl
+    where
+      swap : (a c d u y z q : ℕ) → a ≡ c + y → c ≡ d + q → u ≡ d + z → y ≡ z → a ≡ u + q
+      swap a c d u y z q e f g h = omega arith
+
+      go : (k ≤ m → ((i : ℕ) → k ≤ i → i < m → g (i + 1) ≡ f i) → weight (tabulate g (m + 1)) ≡ weight (tabulate f m) + 3 ^ (x .store + 1))
+          → (b : Bool) → eqb k (suc m) ≡ b → weight (tabulate g (suc m + 1)) ≡ weight (tabulate f (suc m)) + 3 ^ (x .store + 1)
+      go ih true e = put-last (suc m) (eqb-true k (suc m) e)
+      go ih false e =
+          let l : k ≤ m = omega (arith, eqb-false k (suc m) e) in
+          let n-is : suc m ≡ m + 1 = omega arith in
+          rw n-is (swap (weight (tabulate g (m + 1 + 1))) (weight (tabulate g (m + 1))) (weight (tabulate f m)) (weight (tabulate f (m + 1)))
+          (3 ^ (g (m + 1) .store + 1)) (3 ^ (f m .store + 1)) (3 ^ (x .store + 1))
+          (ap weight (tabulate-next g (m + 1)) ∙ weight-next (tabulate g (m + 1)) (g (m + 1)))
+          (ih l (λ i a b. above i a (omega arith)))
+          (ap weight (tabulate-next f m) ∙ weight-next (tabulate f m) (f m))
+          (ap (λ (y : Configuration). 3 ^ (y .store + 1)) (above m l (omega arith))))
+
 -- the walk with another number of nodes to visit
 abbrev pub topped : Walk → ℕ → Walk
 topped s n = record { running = s .running; shelf = s .shelf; marks = s .marks; top = n }
 
--- these nodes were stored after the others, and nothing else was changed
+-- these nodes are to be visited with the others, none is lost and there is no other, and nothing else was changed
 pub record NodesAdded (v : List ℕ) (s : Walk) (more : List Configuration) (w : List ℕ) (t : Walk) : Type 0 where
   pub outside : SameOutside pendingAt pendingEnd v w
   pub walk : t ≡ topped s (t .top)
-  pub pending : pendingIn w (t .top) ≡ pendingIn v (s .top) ++ more
+  pub kept : (e : Configuration) → List·Memᴰ e (pendingIn v (s .top) ++ more) → List·Memᴰ e (pendingIn w (t .top))
+  pub only : (e : Configuration) → List·Memᴰ e (pendingIn w (t .top)) → List·Memᴰ e (pendingIn v (s .top) ++ more)
+  pub light : weight (pendingIn w (t .top)) ≤ weight (pendingIn v (s .top)) + weight more
 
 pub added-none : (v : List ℕ) (s : Walk) → NodesAdded v s [] v s
-added-none v s = record { outside = outside-same pendingAt pendingEnd v; walk = refl; pending = sym (append-nil (pendingIn v (s .top))) }
+added-none v s =
+    record {
+      outside = outside-same pendingAt pendingEnd v;
+      walk = refl;
+      kept = λ e i. subst (List·Memᴰ e) (append-nil (pendingIn v (s .top))) i;
+      only = λ e i. Memᴰ·append-left [] i;
+      light = omega arith;
+    }
 
--- one node
-pub pushed-added : {v w : List ℕ} {s : Walk} {e : Configuration} → s .top < 64 → Pushed v (s .top) e w
-    → NodesAdded v s (e ∷ []) w (topped s (s .top + 1))
-pushed-added {v} {w} {s} {e} l p =
-    record { outside = outside-wider (p .outside) pendingAt pendingEnd (omega arith) (omega arith); walk = refl; pending = pushed-all p }
+-- one node, which was there already or was put in
+module _ {v : List ℕ} {s : Walk} {x : Configuration} where
+  entered-there : (i : ℕ) → i < s .top → pendingOne v i ≡ x → NodesAdded v s (x ∷ []) v s
+  entered-there i l e =
+      record {
+        outside = outside-same pendingAt pendingEnd v;
+        walk = refl;
+        kept = λ y j.
+            ⊎-elim (λ (k : List·Memᴰ y (pendingIn v (s .top))). k)
+            (λ (k : List·Memᴰ y (x ∷ [])).
+            subst (λ (z : Configuration). List·Memᴰ z (pendingIn v (s .top))) (e ∙ sym (List·Memᴰ·eq-of-singleton k))
+            (mem-tabulate (pendingOne v) (s .top) i l))
+            (List·Memᴰ·append-cases (pendingIn v (s .top)) j);
+        only = λ y j. Memᴰ·append-left (x ∷ []) j;
+        light = omega arith;
+      }
+
+  entered-put : {n : ℕ} {w : List ℕ} (k : ℕ) → s .top < 64 → PutAmong v (s .top) n k x w → NodesAdded v s (x ∷ []) w (topped s (s .top + 1))
+  entered-put {n} {w} k l p =
+      record {
+        outside = p .outside;
+        walk = refl;
+        kept = λ y j.
+            ⊎-elim
+            (λ (o : List·Memᴰ y (pendingIn v (s .top))). old y o)
+            (λ (o : List·Memᴰ y (x ∷ [])).
+            subst (λ (z : Configuration). List·Memᴰ z (pendingIn w (s .top + 1))) (p .here ∙ sym (List·Memᴰ·eq-of-singleton o))
+            (mem-tabulate (pendingOne w) (s .top + 1) k (omega (arith, p .place))))
+            (List·Memᴰ·append-cases (pendingIn v (s .top)) j);
+        only = λ y j.
+            let i = tabulate-mem (pendingOne w) (s .top + 1) j in
+            new y (i .0) (i .1) (i .2) (ltb (i .0) k) refl (eqb (i .0) k) refl;
+        light = omega (arith, put-weight (pendingOne v) (pendingOne w) k x (p .below) (p .here) (s .top) (p .place) (λ i h u. p .above i h u .0), weight-next [] x, weight-none);
+      }
+    where
+      old : (y : Configuration) → List·Memᴰ y (pendingIn v (s .top)) → List·Memᴰ y (pendingIn w (s .top + 1))
+      old y o =
+          let i = tabulate-mem (pendingOne v) (s .top) o in
+          go (i .0) (i .1) (i .2) (ltb (i .0) k) refl
+        where
+          go : (i : ℕ) → i < s .top → y ≡ pendingOne v i → (b : Bool) → ltb i k ≡ b → List·Memᴰ y (pendingIn w (s .top + 1))
+          go i h e true t =
+              subst (λ (z : Configuration). List·Memᴰ z (pendingIn w (s .top + 1))) (p .below i (ltb-true i k t) ∙ sym e)
+              (mem-tabulate (pendingOne w) (s .top + 1) i (omega arith))
+          go i h e false t =
+              subst (λ (z : Configuration). List·Memᴰ z (pendingIn w (s .top + 1))) (p .above i (ltb-false i k t) h .0 ∙ sym e)
+              (mem-tabulate (pendingOne w) (s .top + 1) (i + 1) (omega arith))
+
+      new : (y : Configuration) (i : ℕ) → i < s .top + 1 → y ≡ pendingOne w i → (b : Bool) → ltb i k ≡ b → (c : Bool) → eqb i k ≡ c
+          → List·Memᴰ y (pendingIn v (s .top) ++ (x ∷ []))
+      new y i h e true t c u =
+          let o : i < s .top = omega (arith, ltb-true i k t, p .place) in
+          Memᴰ·append-left (x ∷ []) (subst (λ (z : Configuration). List·Memᴰ z (pendingIn v (s .top))) (sym (e ∙ p .below i (ltb-true i k t)))
+          (mem-tabulate (pendingOne v) (s .top) i o))
+      new y i h e false t true u =
+          Memᴰ·append-right (pendingIn v (s .top)) (List·Memᴰ·head (e ∙ ap (pendingOne w) (eqb-true i k u) ∙ p .here))
+      new y i h e false t false u =
+          let o : (i - 1 < s .top) × (k ≤ i - 1) × (i - 1 + 1 ≡ i) =
+          (omega (arith, ltb-false i k t, eqb-false i k u), omega (arith, ltb-false i k t, eqb-false i k u), omega (arith, ltb-false i k t, eqb-false i k u)) in
+          Memᴰ·append-left (x ∷ [])
+          (subst (λ (z : Configuration). List·Memᴰ z (pendingIn v (s .top)))
+          (sym (e ∙ ap (pendingOne w) (sym (o .2)) ∙ p .above (i - 1) (o .1) (o .0) .0))
+          (mem-tabulate (pendingOne v) (s .top) (i - 1) (o .0)))
+
+pub entered-added : {v w : List ℕ} {s : Walk} {n next : ℕ} {x : Configuration} → s .top < 64 → Entered v (s .top) n x w next
+    → NodesAdded v s (x ∷ []) w (topped s next)
+entered-added l (there i h e) = entered-there i h e
+entered-added l (put k p) = entered-put k l p
+
+-- there are at most one more, and all are those of configurations
+pub entered-few : {v w : List ℕ} {top n next : ℕ} {x : Configuration} → Entered v top n x w next → next ≤ top + 1
+entered-few (there i h e) = omega arith
+entered-few (put k p) = omega arith
+
+pub entered-long : {v w : List ℕ} {top n next : ℕ} {x : Configuration} → Entered v top n x w next → length w ≡ length v
+entered-long (there i h e) = refl
+entered-long (put k p) = p .outside .long
+
+pub entered-packed : {v w : List ℕ} {top n next : ℕ} {x : Configuration} → ((i : ℕ) → i < top → PendingPacked v i)
+    → Entered v top n x w next → (i : ℕ) → i < next → PendingPacked w i
+entered-packed f (there k h e) i l = f i l
+entered-packed f (put k p) i l = p .packed i (omega arith)
 
 -- some nodes and then others
 pub added-again : {u v w : List ℕ} {s r t : Walk} {one two : List Configuration} → NodesAdded u s one v r → NodesAdded v r two w t
@@ -96,8 +212,17 @@ added-again {u} {v} {w} {s} {r} {t} {one} {two} a b =
     record {
       outside = outside-again (a .outside) (b .outside);
       walk = b .walk ∙ ap (λ (x : Walk). topped x (t .top)) (a .walk);
-      pending =
-          b .pending ∙ ap (λ (l : List Configuration). l ++ two) (a .pending) ∙ append-assoc (pendingIn u (s .top)) one two;
+      kept = λ e i.
+          b .kept e
+          (⊎-elim (λ (o : List·Memᴰ e (pendingIn u (s .top) ++ one)). Memᴰ·append-left two (a .kept e o))
+          (λ (o : List·Memᴰ e two). Memᴰ·append-right (pendingIn v (r .top)) o)
+          (List·Memᴰ·append-cases (pendingIn u (s .top) ++ one) (subst (List·Memᴰ e) (sym (append-assoc (pendingIn u (s .top)) one two)) i)));
+      only = λ e i.
+          subst (List·Memᴰ e) (append-assoc (pendingIn u (s .top)) one two)
+          (⊎-elim (λ (o : List·Memᴰ e (pendingIn v (r .top))). Memᴰ·append-left two (a .only e o))
+          (λ (o : List·Memᴰ e two). Memᴰ·append-right (pendingIn u (s .top) ++ one) o)
+          (List·Memᴰ·append-cases (pendingIn v (r .top)) (b .only e i)));
+      light = omega (arith, a .light, b .light, weight-append one two);
     }
 
 -- ---- all stays in order
@@ -178,6 +303,39 @@ pushed-walking {b} {v} {w} {s} {e} k p fit low =
         let h = k .entries i r in
         entry-same i (below i r) (pushed-packed p i r (h .packed)) h
 
+-- a node that fits is among those to visit, the ones above it are lower than n, and there is room above n
+pub entered-walking : {b : Basis} {v w : List ℕ} {s : Walk} {n next : ℕ} {x : Configuration} → Walking v b s → NodeFits b x → x .store < n
+    → n + s .top ≤ 64 → Entered v (s .top) n x w next → Walking w b (topped s next)
+entered-walking k fit low room (there i h e) = k
+entered-walking {b} {v} {w} {s} {n} {next} {x} kw fit low room (put k p) =
+    stored-walking kw (p .outside) (s .top + 1) (omega arith) (λ i l. go i l (ltb i k) refl (eqb i k) refl)
+  where
+    go : (i : ℕ) → i < s .top + 1 → (t : Bool) → ltb i k ≡ t → (u : Bool) → eqb i k ≡ u → Entry w b i
+    go i l true t u q =
+        let h : i < k = ltb-true i k t in
+        let o : i < s .top = omega (arith, p .place) in
+        entry-same i (p .below i h) (p .packed i (omega arith)) (kw .entries i o)
+    go i l false t true q =
+        let r : i ≡ k = eqb-true i k q in
+        let h = p .place in
+        subst (Entry w b) (sym r) (record {
+          packed = p .packed k (p .place);
+          fits = subst (NodeFits b) (sym (p .here)) fit;
+          height = subst (λ (y : Configuration). y .store + k < 64) (sym (p .here)) (omega arith);
+        })
+    go i l false t false q =
+        let a : k ≤ i - 1 = omega (arith, ltb-false i k t, eqb-false i k q) in
+        let c : i - 1 < s .top = omega (arith, ltb-false i k t, eqb-false i k q) in
+        let d : i - 1 + 1 ≡ i = omega (arith, ltb-false i k t, eqb-false i k q) in
+        let up = p .above (i - 1) a c in
+        let same : pendingOne w i ≡ pendingOne v (i - 1) = ap (pendingOne w) (sym d) ∙ up .0 in
+        let h = up .1 in
+        record {
+          packed = p .packed i (omega arith);
+          fits = subst (NodeFits b) (sym same) (kw .entries (i - 1) c .fits);
+          height = subst (λ (y : Configuration). y .store + i < 64) (sym same) (omega arith);
+        }
+
 -- ---- nodes in the place of one
 -- the moves that any of the nodes give
 abbrev pub GivenBy : Sheet → ℕ → List Configuration → Move → Type 0
@@ -245,15 +403,20 @@ module _ {b : Basis} {v w : List ℕ} {s t : Walk} {more : List Configuration} (
 
   module _ {extra : List Configuration} (g : Growth) (h : InHand g) (same : GiveSame (g .sheet) (b .store) extra more)
       (lower : (x y : Configuration) → List·Memᴰ x more → List·Memᴰ y extra → x .store < y .store) where
+    added-old : (m : Move) → GivenBy (g .sheet) (b .store) (pendingIn v (s .top)) m → GivenBy (g .sheet) (b .store) (pendingIn w (t .top)) m
+    added-old m y = (y .0, a .kept (y .0) (Memᴰ·append-left more (y .1)), y .2)
+
+    added-more : (m : Move) → GivenBy (g .sheet) (b .store) more m → GivenBy (g .sheet) (b .store) (pendingIn w (t .top)) m
+    added-more m y = (y .0, a .kept (y .0) (Memᴰ·append-right (pendingIn v (s .top)) (y .1)), y .2)
+
     -- what was in hand is in hand
     added-held : (m : Move) → Held g b v s extra m → Held g b w t [] m
     added-held m (inl i) = inl (subst (List·Memᴰ m) (sym added-moves) i)
     added-held m (inr x) =
-        inr (subst (λ (l : List Configuration). GivenBy (g .sheet) (b .store) l m) (sym (a .pending))
-        (⊎-elim
-        (λ (y : GivenBy (g .sheet) (b .store) extra m). given-right (g .sheet) (b .store) (pendingIn v (s .top)) (same .onward m y))
-        (λ (y : GivenBy (g .sheet) (b .store) (pendingIn v (s .top)) m). given-left (g .sheet) (b .store) more y)
-        (given-cases (g .sheet) (b .store) extra x)))
+        inr (⊎-elim
+        (λ (y : GivenBy (g .sheet) (b .store) extra m). added-more m (same .onward m y))
+        (λ (y : GivenBy (g .sheet) (b .store) (pendingIn v (s .top)) m). added-old m y)
+        (given-cases (g .sheet) (b .store) extra x))
 
     added-below : (i : ℕ) (m : Move) → HeldBelow g b v s extra i m → HeldBelow g b w t [] i m
     added-below i m (inl k) = inl (subst (List·Memᴰ m) (sym added-moves) k)
@@ -261,12 +424,11 @@ module _ {b : Basis} {v w : List ℕ} {s t : Walk} {more : List Configuration} (
         let y = same .onward m (x .0, x .1, x .3) in
         inr (inr (
           y .0,
-          subst (List·Memᴰ (y .0)) (sym (a .pending)) (Memᴰ·append-right (pendingIn v (s .top)) (y .1)),
+          a .kept (y .0) (Memᴰ·append-right (pendingIn v (s .top)) (y .1)),
           omega (arith, lower (y .0) (x .0) (y .1) (x .1), x .2),
           y .2,
         ))
-    added-below i m (inr (inr x)) =
-        inr (inr (x .0, subst (List·Memᴰ (x .0)) (sym (a .pending)) (Memᴰ·append-left more (x .1)), x .2, x .3))
+    added-below i m (inr (inr x)) = inr (inr (x .0, a .kept (x .0) (Memᴰ·append-left more (x .1)), x .2, x .3))
 
     -- what nodes to visit give, those that were there or the extra ones gave
     added-given : (m : Move) → GivenBy (g .sheet) (b .store) (pendingIn w (t .top)) m
@@ -275,8 +437,7 @@ module _ {b : Basis} {v w : List ℕ} {s t : Walk} {more : List Configuration} (
         ⊎-elim
         (λ (y : GivenBy (g .sheet) (b .store) (pendingIn v (s .top)) m). given-right (g .sheet) (b .store) extra y)
         (λ (y : GivenBy (g .sheet) (b .store) more m). given-left (g .sheet) (b .store) (pendingIn v (s .top)) (same .back m y))
-        (given-cases (g .sheet) (b .store) (pendingIn v (s .top))
-        (subst (λ (l : List Configuration). GivenBy (g .sheet) (b .store) l m) (a .pending) x))
+        (given-cases (g .sheet) (b .store) (pendingIn v (s .top)) (x .0, a .only (x .0) (x .1), x .2))
 
     pub added-carried : Covering g h b v s extra → Carried g h b v s extra w t
     added-carried c =
@@ -305,11 +466,6 @@ module _ {b : Basis} {v w : List ℕ} {s t : Walk} {more : List Configuration} (
         walking = l;
         grown = added-grown;
         lighter =
-            omega (
-              arith,
-              ap weight (a .pending),
-              weight-append (pendingIn v (s .top)) more,
-              weight-append extra (pendingIn v (s .top)),
-            );
+            omega (arith, a .light, weight-append extra (pendingIn v (s .top)));
         carried = λ g h o c. added-carried g h (same (g .sheet) (o .nodes-are)) lower c;
       }

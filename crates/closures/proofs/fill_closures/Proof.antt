@@ -4,10 +4,9 @@ use Prim.Native.Nat.{_+_, _-_, _^_, _≤_, _<_}
 use native.Mathlib.Omega.{arith}
 use lib.ListN.{length, drop, length-set}
 use borrow.Author.Needs.{needs}
-use Rattle.stores.specs.Stores.{pass}
 use Rattle.closing.specs.Layout.{rulesIn}
 use Rattle.closures.specs.ClosureTable.{Closures}
-use Rattle.closures.specs.FillLaws.{pass-lt, closures-none, closures-down, drop-put-closure}
+use Rattle.closures.specs.FillLaws.{grown-lt, closures-none, closures-down, drop-put-closure}
 use Rattle.closures.proofs.fill_closures.Statement.{statement}
 use Rattle.closures.proofs.fill_closures.Tie as tie
 
@@ -31,11 +30,11 @@ loop-holds c =
 sub-s : tie.Need-sub-s Inv-loop μ-loop
 sub-s c = search needs
 
-cast-pass-once : tie.Need-cast-pass-once Inv-loop μ-loop
-cast-pass-once c = search needs
+cast-grown : tie.Need-cast-grown Inv-loop μ-loop
+cast-grown c = search needs
 
-pass-once-requires : tie.Need-pass-once-requires Inv-loop μ-loop
-pass-once-requires c κs = search needs
+grown-requires : tie.Need-grown-requires Inv-loop μ-loop
+grown-requires c κs = search needs
 
 cast-table : tie.Need-cast-table Inv-loop μ-loop
 cast-table c = search needs
@@ -57,8 +56,8 @@ slice-read-table c =
     let start = c .before .before .before .before .before .before in
     let a = start .args in
     let l = c .before .before .before .loop in
-    let fits : c .before .pass-once .result < 2 ^ a .facts =
-    rw (c .before .pass-once .ensures) (pass-lt (rulesIn (a .rules .now) (a .n)) (a .facts) (l .s - 1) (omega arith) (start .pre .3)) in
+    let fits : c .before .grown .result < 2 ^ a .facts =
+    grown-lt (rulesIn (a .rules .now) (a .n)) (a .facts) (c .before .grown .ensures) (omega arith) (start .pre .3) in
     simp length-set (omega (arith, fits))
 
 mul-table-3 : tie.Need-mul-table-3 Inv-loop μ-loop
@@ -78,12 +77,14 @@ loop-again c =
     let rs = rulesIn (a .rules .now) (a .n) in
     let s = l .s - 1 in
     let e : s + 1 ≡ l .s = omega arith in
-    let fits : pass rs s < 2 ^ a .facts = pass-lt rs (a .facts) s (omega arith) (start .pre .3) in
+    let t = c .before .grown .result in
+    let g = c .before .grown .ensures in
+    let fits : t < 2 ^ a .facts = grown-lt rs (a .facts) g (omega arith) (start .pre .3) in
     let done : Closures rs (s + 1) (2 ^ a .facts) (l .table) = rw e (l .inv .2) in (
       search needs,
       simp length-set (l .inv .1),
-      rw (c .before .pass-once .ensures) (closures-down rs (l .table) s (2 ^ a .facts) (omega arith) (omega arith) fits done),
-      rw (c .before .pass-once .ensures) (drop-put-closure rs (l .table) s (2 ^ a .facts) (omega arith) ∙ l .inv .3),
+      closures-down rs (l .table) s t (2 ^ a .facts) (omega arith) (omega arith) g fits done,
+      drop-put-closure (l .table) s t (2 ^ a .facts) (omega arith) ∙ l .inv .3,
     )
 
 same-length : tie.Need-same-length Inv-loop μ-loop
@@ -103,8 +104,8 @@ fill-closures-spec =
     sets-of-requires
     loop-holds
     sub-s
-    cast-pass-once
-    pass-once-requires
+    cast-grown
+    grown-requires
     cast-table
     mul-table
     slice-write-table

@@ -1,8 +1,16 @@
--- An entry for c has its labels; where there is none they are found, behind those of the shelf or of one with no entries.
-use Rattle.labelling.specs.ShelfLaws.{entry-answers, shelved-kept}
+-- An entry for what d lacks of c has the labels of an ask of c; where there is none they are found, behind those of the shelf
+-- or of one with no entries.
+use Rattle.labelling.specs.ShelfLaws.{entry-answers, missing-answers, shelved-kept}
+use Rattle.labelling.specs.Outside.{outside}
+use Rattle.labelling.specs.Shelf.{Answered}
+use mathlib.Core.Path.{_∙_, subst}
+use Prim.Native.Nat.{ℕ}
 use borrow.Author.Needs.{needs}
 use Rattle.labelling.proofs.labels_at.Statement.{statement}
 use Rattle.labelling.proofs.labels_at.Tie as tie
+
+missing-requires : tie.Need-missing-requires
+missing-requires c κs = search needs
 
 entry-of-requires : tie.Need-entry-of-requires
 entry-of-requires c κs = search needs
@@ -30,19 +38,22 @@ same-length c = search needs
 
 returns : tie.Need-returns
 returns c =
-    let start = c .before .before .before .before .before .before .before .before in
+    let start = c .before .before .before .before .before .before .before .before .before in
     let x = start .args in
+    let lacking = c .before .before .before .before .before .before .before .missing in
     let entry = c .before .before .before .before .before .entry-of in
     let there = c .before .before .before .before .if1 .taken in
     rw (c .before .before .number-at .ensures, c .number-at2 .ensures)
-    (entry-answers (x .w .now) (x .facts) (x .d) (x .c) (x .shelf) (entry .result) (start .pre .1) there (entry .ensures .1 there))
+    (missing-answers (x .c)
+    (entry-answers (x .w .now) (x .facts) (x .d) (outside (x .d) (x .c)) (x .shelf) (entry .result) (start .pre .1) there
+    (entry .ensures .1 there ∙ lacking .ensures)))
 
 with-room-requires : tie.Need-with-room-requires
 with-room-requires c κs = search needs
 
 add-labels-requires : tie.Need-add-labels-requires
 add-labels-requires c κs =
-    let start = c .before .before .before .before .before .before in
+    let start = c .before .before .before .before .before .before .before in
     let roomy = c .before .with-room .ensures in
     (start .pre .0, shelved-kept (start .pre .1) roomy, roomy .sets, roomy .used)
 
@@ -50,12 +61,18 @@ same-length-2 : tie.Need-same-length-2
 same-length-2 c = search needs
 
 returns-2 : tie.Need-returns-2
-returns-2 c = search needs
+returns-2 c =
+    let x = c .before .before .before .before .before .before .before .before .before .before .args in
+    let found = c .before .before .add-labels in
+    let lacking = c .before .before .before .before .before .before .before .before .missing in
+    missing-answers (x .c)
+    (subst (λ (m : ℕ). Answered (x .w .now) (x .facts) (x .d) m (found .result) (found .last .0)) (lacking .ensures) (found .ensures))
 
 pub labels-at-spec : {M : Type 1} → statement M
 labels-at-spec =
     tie.close
     (tie.spec
+    missing-requires
     entry-of-requires
     mul-at
     add-at

@@ -1,9 +1,9 @@
--- Where c is inside d the least store is the one label; else the labels are those that the scan finds.
+-- Where c is inside d the least store is the one label; else the labels are those that the scan finds, put in order.
 use borrow.Author.Needs.{needs}
 use native.Mathlib.Omega.{arith}
 use Prim.Native.Nat.{_+_, _/_, _^_}
 use lib.ListN.{getD}
-use Rattle.labelling.specs.ScanLaws.{least-alone, same-set}
+use Rattle.labelling.specs.ScanLaws.{least-alone, same-set, numbers-distinct, sorted-labels, sorted-same}
 use Rattle.labelling.proofs.labels_from.Statement.{statement}
 use Rattle.labelling.proofs.labels_from.Tie as tie
 
@@ -31,11 +31,32 @@ returns c =
 scan-labels-requires : tie.Need-scan-labels-requires
 scan-labels-requires c κs = search needs
 
+returns-2 : tie.Need-returns-2
+returns-2 c =
+    let start = c .before .before .before .before .before .before .before .before .before .before in
+    let x = start .args in
+    let scan = c .before .before .before .before .before .before .scan-labels in
+    let sort = c .before .before .sort-numbers in (
+      sorted-labels (x .facts) (x .d) (x .c) (x .at) (x .w .now) (start .pre) (scan .result) (scan .last .0) (scan .ensures .1) (sort .last .0)
+          (sort .ensures) (scan .ensures .0),
+      scan .ensures .1,
+      sorted-same (x .facts) (x .d) (x .c) (x .at) (x .w .now) (start .pre) (scan .result) (scan .last .0) (scan .ensures .1) (sort .last .0)
+          (sort .ensures) (scan .ensures .2),
+    )
+
+add-sort-numbers : tie.Need-add-sort-numbers
+add-sort-numbers c = search needs
+
+sort-numbers-requires : tie.Need-sort-numbers-requires
+sort-numbers-requires c κs =
+    let start = c .before .before .before .before .before .before .before in
+    let x = start .args in
+    let scan = c .before .before .before .scan-labels in
+    let n = numbers-distinct (x .facts) (x .d) (x .c) (x .at) (x .w .now) (start .pre) (scan .result) (scan .last .0) (scan .ensures .1) in
+    (search needs, omega (arith, scan .ensures .2 .long), n (scan .ensures .0))
+
 same-length-2 : tie.Need-same-length-2
 same-length-2 c = search needs
-
-returns-2 : tie.Need-returns-2
-returns-2 c = search needs
 
 pub labels-from-spec : {M : Type 1} → statement M
 labels-from-spec =
@@ -47,5 +68,7 @@ labels-from-spec =
     same-length
     returns
     scan-labels-requires
+    add-sort-numbers
+    sort-numbers-requires
     same-length-2
     returns-2)

@@ -1,19 +1,17 @@
 -- The two tests are the definition's; the second is asked where the first holds.
-use mathlib.Core.Path.{sym, _∙_}
+use mathlib.Core.Path.{sym, ap, _∙_}
+use lib.Bits.{bitOr}
 use borrow.Author.Needs.{needs}
 use borrow.Author.Tests.{ne-eqb}
 use Rattle.labelling.specs.FoundLaws.{passes-closed, passes-open}
 use Rattle.labelling.proofs.passes.Statement.{statement}
 use Rattle.labelling.proofs.passes.Tie as tie
 
-mul-own : tie.Need-mul-own
-mul-own c = search needs
+sub-number-at : tie.Need-sub-number-at
+sub-number-at c = search needs
 
-shared-slice-read-own : tie.Need-shared-slice-read-own
-shared-slice-read-own c = search needs
-
-cast-joined : tie.Need-cast-joined
-cast-joined c = search needs
+number-at-requires : tie.Need-number-at-requires
+number-at-requires c κs = search needs
 
 mul-joined : tie.Need-mul-joined
 mul-joined c = search needs
@@ -23,22 +21,15 @@ shared-slice-read-joined c = search needs
 
 returns : tie.Need-returns
 returns c =
-    let x = c .before .before .before .args in
-    sym (passes-closed (x .w .now) (x .d) (x .c) (x .a) (c .if1 .taken))
+    let x = c .before .before .before .before .args in
+    let own = ap (bitOr (x .d)) (sym (c .before .before .number-at .ensures)) in
+    sym (passes-closed (x .w .now) (x .d) (x .c) (x .v) (own ∙ c .if1 .taken))
 
 returns-2 : tie.Need-returns-2
 returns-2 c =
-    let x = c .before .before .before .args in
-    ne-eqb _ _ (c .if1 .left) ∙ sym (passes-open (x .w .now) (x .d) (x .c) (x .a) (c .if1 .left))
+    let x = c .before .before .before .before .args in
+    let own = ap (bitOr (x .d)) (c .before .before .number-at .ensures) in
+    ne-eqb _ _ (c .if1 .left) ∙ sym (passes-open (x .w .now) (x .d) (x .c) (x .v) (λ e. c .if1 .left (own ∙ e)))
 
 pub passes-spec : {M : Type 1} → statement M
-passes-spec =
-    tie.close
-    (tie.spec
-    mul-own
-    shared-slice-read-own
-    cast-joined
-    mul-joined
-    shared-slice-read-joined
-    returns
-    returns-2)
+passes-spec = tie.close (tie.spec sub-number-at number-at-requires mul-joined shared-slice-read-joined returns returns-2)

@@ -29,21 +29,24 @@ mul-w c = search needs
 slice-write-w : tie.Need-slice-write-w
 slice-write-w c = search needs
 
-put-key-requires : tie.Need-put-key-requires
-put-key-requires c κs = simp length-set (omega arith)
+mul-put-three : tie.Need-mul-put-three
+mul-put-three c = search needs
+
+put-three-requires : tie.Need-put-three-requires
+put-three-requires c κs = simp length-set (omega arith)
 
 same-length : tie.Need-same-length
 same-length c =
     let g = c .before .before .before .before .before .before .before .before .before .args in
     let u = c .before .before .before .before .before .before .shift-up in
-    c .before .before .put-key .kept .0 ∙ length-set (u .last .0) (1536 + g .at) (g .n) ∙ u .kept .0
+    c .before .before .put-three .kept .0 ∙ length-set (u .last .0) (1536 + g .at) (g .n) ∙ u .kept .0
 
 returns : tie.Need-returns
 returns c =
     let b = c .before .before .before .before .before .before .before .before .before in
     let g = b .args in
     let u = c .before .before .before .before .before .before .shift-up in
-    rw (c .before .before .put-key .ensures)
+    rw (c .before .before .put-three .ensures)
     (put-in (g .w .now) (u .last .0) (g .n) (g .at) (g .x) (u .ensures) (b .pre .0) (b .pre .1) (b .pre .2))
 
 pub put-in-spec : {M : Type 1} → statement M
@@ -57,6 +60,7 @@ put-in-spec =
     add-w
     mul-w
     slice-write-w
-    put-key-requires
+    mul-put-three
+    put-three-requires
     same-length
     returns)

@@ -1,31 +1,38 @@
 -- After i nodes the loop has them with their table, and what is left to read gives what the whole gives.
 use Prim.Native.Nat.{_-_, _≤_}
+use mathlib.Core.Path.{refl, subst, _∙_}
 use native.Mathlib.Omega.{arith}
 use borrow.Author.Needs.{needs}
 use lib.ListN.{length}
+use Rattle.lists.specs.Tables.{tabulate-length}
 use Rattle.closing.specs.Layout.{rulesIn}
+use Rattle.held.specs.Held.{nodeIn}
+use Rattle.opening.specs.Table.{tableIn, openedNode, Few}
+use Rattle.node_reader.specs.Found.{nodesOf}
+use Rattle.node_reader.specs.NextLaws.{next-refused, next-fits, next-many, next-few}
 use Rattle.node_reader.specs.SoFar.{SoFar, so-far-none, so-far-next, so-far-refused, so-far-end}
 use Rattle.node_reader.proofs.nodes_from.Statement.{statement}
 use Rattle.node_reader.proofs.nodes_from.Tie as tie
 
 abbrev Inv-loop : tie.InvT-loop
-Inv-loop s facts rules rule-count n at read₀ p₀ i₀ read p i = (i ≤ n) × (p ≤ length s) × SoFar facts (rulesIn rules rule-count) n s at i p read
+Inv-loop s facts rules rule-count n at kinds₀ firsts₀ seconds₀ counts₀ threads₀ p₀ i₀ kinds firsts seconds counts threads p i =
+    (i ≤ n) × (p ≤ length s) × SoFar facts (rulesIn rules rule-count) n s at i p (nodesOf kinds firsts seconds) (tableIn counts threads)
 
 abbrev μ-loop : tie.MeasureT-loop
-μ-loop s facts rules rule-count n at read₀ p₀ i₀ read p i = n - i
-
-no-nodes-requires : tie.Need-no-nodes-requires Inv-loop μ-loop
-no-nodes-requires c κs = search needs
+μ-loop s facts rules rule-count n at kinds₀ firsts₀ seconds₀ counts₀ threads₀ p₀ i₀ kinds firsts seconds counts threads p i =
+    n - i
 
 loop-holds : tie.Need-loop-holds Inv-loop μ-loop
-loop-holds c = let a = c .before .before .args in (
-  search needs,
-  search needs,
-  so-far-none (a .facts) (rulesIn (a .rules .now) (a .rule-count)) (a .n) (a .s .now) (a .at) (c .no-nodes .result) (c .no-nodes .ensures),
-)
+loop-holds c =
+    let a = c .before .args in (
+      search needs,
+      search needs,
+      so-far-none (a .facts) (rulesIn (a .rules .now) (a .rule-count)) (a .n) (a .s .now) (a .at) _ _
+          (record { kinds = refl; firsts = refl; seconds = refl; counts = refl; threads = refl }),
+    )
 
-next-node-requires : tie.Need-next-node-requires Inv-loop μ-loop
-next-node-requires c κs = (omega arith, omega arith, omega arith, omega arith, c .before .before .before .loop .inv .2 .table)
+node-at-requires : tie.Need-node-at-requires Inv-loop μ-loop
+node-at-requires c κs = search needs
 
 enum-known-answer : tie.Need-enum-known-answer Inv-loop μ-loop
 enum-known-answer c = search needs
@@ -33,10 +40,64 @@ enum-known-answer c = search needs
 enum-told : tie.Need-enum-told Inv-loop μ-loop
 enum-told c = search needs
 
+no-nodes-requires : tie.Need-no-nodes-requires Inv-loop μ-loop
+no-nodes-requires c κs = search needs
+
 returns : tie.Need-returns Inv-loop μ-loop
-returns c = let a = c .before .before .before .before .before .before .before .before .before .args in
-    let l = c .before .before .before .before .before .before .loop in
-    so-far-refused (a .facts) (rulesIn (a .rules .now) (a .rule-count)) (a .n) (a .s .now) (a .at) (l .i) (l .p) (l .read) (l .inv .2) (omega arith) _ (c .before .before .next-node .ensures) (c .enum-told .given .1)
+returns c =
+    let a = c .before .before .before .before .before .before .before .args in
+    let l = c .before .before .before .before .before .loop in
+    let rules = rulesIn (a .rules .now) (a .rule-count) in
+    let nodes = nodesOf (l .kinds) (l .firsts) (l .seconds) in
+    let o = tableIn (l .counts) (l .threads) in
+    so-far-refused (a .facts) rules (a .n) (a .s .now) (a .at) (l .i) (l .p) nodes o (l .inv .2) (c .no-nodes .result) (omega arith) (c .no-nodes .ensures ∙ c .before .enum-told .given .1)
+    (next-refused (a .facts) rules (a .n) (a .s .now) nodes o (l .i) (l .p) (l .inv .2 .table) (c .before .before .before .node-at .result) (c .before .before .before .node-at .ensures) (c .before .enum-told .given .1))
+
+cast-k : tie.Need-cast-k Inv-loop μ-loop
+cast-k c = search needs
+
+open-node-requires : tie.Need-open-node-requires Inv-loop μ-loop
+open-node-requires c κs =
+    let a = c .before .before .before .before .before .before .before .before .before .args in
+    let l = c .before .before .before .before .before .before .before .loop in
+    let rules = rulesIn (a .rules .now) (a .rule-count) in
+    let nodes = nodesOf (l .kinds) (l .firsts) (l .seconds) in
+    let o = tableIn (l .counts) (l .threads) in
+    let few = subst (Few o) (tabulate-length (nodeIn nodes) (l .i)) (l .inv .2 .table .few) in
+    (omega arith, l .inv .2 .room .threads, few, next-fits (a .facts) rules (a .n) (a .s .now) nodes o (l .i) (l .p) (l .inv .2 .table) (c .before .before .before .before .before .node-at .result) (c .before .before .before .before .before .node-at .ensures) (c .before .before .before .answer .given .1) .0)
+
+no-nodes-requires-2 : tie.Need-no-nodes-requires-2 Inv-loop μ-loop
+no-nodes-requires-2 c κs = search needs
+
+returns-2 : tie.Need-returns-2 Inv-loop μ-loop
+returns-2 c =
+    let a = c .before .before .before .before .before .before .before .before .before .before .before .before .args in
+    let l = c .before .before .before .before .before .before .before .before .before .before .loop in
+    let rules = rulesIn (a .rules .now) (a .rule-count) in
+    let nodes = nodesOf (l .kinds) (l .firsts) (l .seconds) in
+    let o = tableIn (l .counts) (l .threads) in
+    so-far-refused (a .facts) rules (a .n) (a .s .now) (a .at) (l .i) (l .p) nodes o (l .inv .2) (c .no-nodes2 .result) (omega arith) (c .no-nodes2 .ensures)
+    (next-many (a .facts) rules (a .n) (a .s .now) nodes o (l .i) (l .p) (l .inv .2 .table) (c .before .before .before .before .before .before .before .before .node-at .result) (c .before .before .before .before .before .before .before .before .node-at .ensures) (c .before .before .before .before .before .before .answer .given .1) (openedNode (c .before .before .open-node .result) (c .before .before .open-node .last .0) (c .before .before .open-node .last .1 .0)) (c .before .before .open-node .ensures) (omega arith))
+
+cast-kinds : tie.Need-cast-kinds Inv-loop μ-loop
+cast-kinds c =
+    let small = c .before .before .before .before .before .before .before .node-at .ensures .kind _ _ (c .before .before .before .before .before .answer .given .1) in
+    record { fits = omega (arith, small) }
+
+array-write-kinds : tie.Need-array-write-kinds Inv-loop μ-loop
+array-write-kinds c = search needs
+
+mul-firsts : tie.Need-mul-firsts Inv-loop μ-loop
+mul-firsts c = search needs
+
+array-write-firsts : tie.Need-array-write-firsts Inv-loop μ-loop
+array-write-firsts c = search needs
+
+mul-seconds : tie.Need-mul-seconds Inv-loop μ-loop
+mul-seconds c = search needs
+
+array-write-seconds : tie.Need-array-write-seconds Inv-loop μ-loop
+array-write-seconds c = search needs
 
 add-i : tie.Need-add-i Inv-loop μ-loop
 add-i c = search needs
@@ -45,15 +106,23 @@ loop-less : tie.Need-loop-less Inv-loop μ-loop
 loop-less c = search needs
 
 loop-again : tie.Need-loop-again Inv-loop μ-loop
-loop-again c = let a = c .before .before .before .before .before .before .before .before .before .before .args in
-    let l = c .before .before .before .before .before .before .before .loop in
-    let next = so-far-next (a .facts) (rulesIn (a .rules .now) (a .rule-count)) (a .n) (a .s .now) (a .at) (l .i) (l .p) (l .read) (l .inv .2) (omega arith) _ (c .before .before .before .next-node .ensures) (c .before .answer .given .1) in
-    (omega arith, next .1, next .0)
+loop-again c =
+    let a = c .before .before .before .before .before .before .before .before .before .before .before .args in
+    let l = c .before .before .before .before .before .before .before .before .before .loop in
+    let rules = rulesIn (a .rules .now) (a .rule-count) in
+    let nodes = nodesOf (l .kinds) (l .firsts) (l .seconds) in
+    let o = tableIn (l .counts) (l .threads) in
+    let one = next-few (a .facts) rules (a .n) (a .s .now) nodes o (l .i) (l .p) (l .inv .2 .table) (c .before .before .before .before .before .before .before .node-at .result) (c .before .before .before .before .before .before .before .node-at .ensures) (c .before .before .before .before .before .answer .given .1) (openedNode (c .before .open-node .result) (c .before .open-node .last .0) (c .before .open-node .last .1 .0)) (c .before .open-node .ensures) (omega arith) (l .inv .2 .room) (omega arith) in
+    (omega arith, one .within, so-far-next (a .facts) rules (a .n) (a .s .now) (a .at) (l .i) (l .p) nodes o (l .inv .2) (omega arith) _ _ _ one)
 
-returns-2 : tie.Need-returns-2 Inv-loop μ-loop
-returns-2 c = let a = c .before .before .before .before .args in
+returns-3 : tie.Need-returns-3 Inv-loop μ-loop
+returns-3 c =
+    let a = c .before .before .before .args in
     let l = c .before .loop in
-    so-far-end (a .facts) (rulesIn (a .rules .now) (a .rule-count)) (a .n) (a .s .now) (a .at) (l .i) (l .p) (l .read) (l .inv .2) (omega arith) (omega arith) (omega arith) (omega arith)
+    let rules = rulesIn (a .rules .now) (a .rule-count) in
+    let nodes = nodesOf (l .kinds) (l .firsts) (l .seconds) in
+    let o = tableIn (l .counts) (l .threads) in
+    so-far-end (a .facts) rules (a .n) (a .s .now) (a .at) (l .i) (l .p) nodes o (l .inv .2) (omega arith) (omega arith) (omega arith) (omega arith)
 
 pub nodes-from-spec : {M : Type 1} → statement M
 nodes-from-spec =
@@ -61,13 +130,23 @@ nodes-from-spec =
     (tie.spec
     Inv-loop
     μ-loop
-    no-nodes-requires
     loop-holds
-    next-node-requires
+    node-at-requires
     enum-known-answer
     enum-told
+    no-nodes-requires
     returns
+    cast-k
+    open-node-requires
+    no-nodes-requires-2
+    returns-2
+    cast-kinds
+    array-write-kinds
+    mul-firsts
+    array-write-firsts
+    mul-seconds
+    array-write-seconds
     add-i
     loop-less
     loop-again
-    returns-2)
+    returns-3)

@@ -1,4 +1,4 @@
--- A part whose mark is 0 is passed over; for any other the threads are joined, and it is stored with them where they are not too many.
+-- A part whose mark is 0 is passed over; for any other the threads are joined, and it is entered with them where they are not too many.
 use lib.ListN.{getD}
 use mathlib.Core.Path.{refl}
 use Rattle.lists.specs.Tests.{not-back}
@@ -6,24 +6,19 @@ use Rattle.part_visits.specs.Parts.{threadsAt}
 use Rattle.part_visits.specs.PartLaws.{not-left, beside-few, part-too-long, part-stored}
 use mathlib.Core.Logic.{inl, inr}
 use native.Mathlib.Omega.{arith}
-use mathlib.Core.Path.{refl}
 use borrow.Author.Needs.{needs}
 use Rattle.part_visits.proofs.push_beside.Statement.{statement}
 use Rattle.part_visits.proofs.push_beside.Tie as tie
 
--- src/lib.rt:29:8
 element-copy-out-if1 : tie.Need-element-copy-out-if1
 element-copy-out-if1 c = search needs
 
--- src/lib.rt:30:9
 returns : tie.Need-returns
 returns c = inl (record { still = c .if1 .taken; same = refl; walk = refl })
 
--- src/lib.rt:33:9
 put-beside-requires : tie.Need-put-beside-requires
 put-beside-requires c κs = let h = c .before .before .before .before .pre in (h .1, h .4, h .5, h .7, h .8)
 
--- src/lib.rt:35:9
 returns-2 : tie.Need-returns-2
 returns-2 c =
     let o = c .before .before .before .before .before .before .before in
@@ -33,39 +28,35 @@ returns-2 c =
     (o .pre .6) (o .pre .8) (getD (a .movables .now) (a .p) 0) (a .p)
     (c .before .before .before .before .if1 .left) (a .w .now) (not-back (x .result .fits) (c .if2 .taken))
 
--- src/lib.rt:39:27
-cast-push : tie.Need-cast-push
-cast-push c = search needs
+cast-enter : tie.Need-cast-enter
+cast-enter c = search needs
 
--- src/lib.rt:39:5
-push-requires : tie.Need-push-requires
-push-requires c κs =
-    let o = c .before .before .before .before .before .before .before .before .before in
+cast-enter-2 : tie.Need-cast-enter-2
+cast-enter-2 c = search needs
+
+enter-requires : tie.Need-enter-requires
+enter-requires c κs =
+    let o = c .before .before .before .before .before .before .before .before .before .before in
     let a = o .args in
-    let x = c .before .before .before .before .put-beside in
+    let x = c .before .before .before .before .before .put-beside in
     let few = beside-few (threadsAt (a .counts .now) (a .threads .now) (a .q)) (a .e) (a .b .caps .threads) (x .result) (x .ensures)
-    (o .pre .6) (o .pre .8) (not-left (x .result .fits) (c .before .before .if2 .left)) in
-    (o .pre .2, o .pre .3, omega (arith, few, o .pre .5))
+    (o .pre .6) (o .pre .8) (not-left (x .result .fits) (c .before .before .before .if2 .left)) in
+    (o .pre .2, o .pre .3, omega (arith, few, o .pre .5), o .pre .9)
 
--- src/lib.rt:42:60
-add-t24 : tie.Need-add-t24
-add-t24 c = search needs
-
--- src/lib.rt:15:1
 same-length : tie.Need-same-length
 same-length c = search needs
 
--- src/lib.rt:15:1
 returns-3 : tie.Need-returns-3
 returns-3 c =
-    let o = c .before .before .before .before .before .before .before .before .before .before .before .before .before .before in
+    let o = c .before .before .before .before .before .before .before .before .before .before .before .before .before .before .before in
     let a = o .args in
-    let x = c .before .before .before .before .before .before .before .before .before .put-beside in
-    let y = c .before .before .before .before .push in
-    let moving = c .before .before .before .before .before .before .before .before .before .before .before .if1 .left in
-    let fits = not-left (x .result .fits) (c .before .before .before .before .before .before .before .if2 .left) in
+    let x = c .before .before .before .before .before .before .before .before .before .before .put-beside in
+    let y = c .before .before .before .before .enter in
+    let moving = c .before .before .before .before .before .before .before .before .before .before .before .before .if1 .left in
+    let fits = not-left (x .result .fits) (c .before .before .before .before .before .before .before .before .if2 .left) in
     inr (part-stored (threadsAt (a .counts .now) (a .threads .now) (a .q)) (a .e) (a .b .caps .threads) (x .result) (x .ensures)
-    (o .pre .6) (o .pre .8) (getD (a .movables .now) (a .p) 0) (a .p) moving (a .w .now) (a .s) (y .last .0) fits (y .ensures))
+    (o .pre .6) (o .pre .8) (getD (a .movables .now) (a .p) 0) (a .p) moving (a .w .now) (a .s) (y .last .0) (a .e .store) (y .result)
+    fits (y .ensures))
 
 pub push-beside-spec : {M : Type 1} → statement M
 push-beside-spec =
@@ -75,8 +66,8 @@ push-beside-spec =
     returns
     put-beside-requires
     returns-2
-    cast-push
-    push-requires
-    add-t24
+    cast-enter
+    cast-enter-2
+    enter-requires
     same-length
     returns-3)

@@ -29,6 +29,7 @@ push-beside-requires c κs =
       n,
       omega (arith, h .7, h .8),
       h .1 .threads .ascending,
+      λ i l. h .0 .entries i l .packed,
     )
 
 -- src/lib.rt:61:20
@@ -75,6 +76,7 @@ push-beside-requires-2 c κs =
       n,
       omega (arith, h .7, h .8),
       h .1 .threads .ascending,
+      m .2,
     )
 
 -- src/lib.rt:46:1

@@ -16,11 +16,11 @@ use Rattle.refining.proofs.found_classes.Reads as found-classes-reads
 use Rattle.refining.proofs.split_all.Reads as split-all-reads
 
 abbrev Inv-loop : tie.InvT-loop
-Inv-loop w₀ n m count₀ round₀ w count round =
-    (length w ≡ length w₀) × ((v : List ℕ) → Ready v n m → Refining v n m w₀ round₀ count₀ → Refining v n m w round count)
+Inv-loop w₀ n m count₀ old₀ round₀ w count old round =
+    (length w ≡ length w₀) × ((v : List ℕ) → Ready v n m → Refining v n m w₀ round₀ old₀ count₀ → Refining v n m w round old count)
 
 abbrev μ-loop : tie.MeasureT-loop
-μ-loop w₀ n m count₀ round₀ w count round = n - count
+μ-loop w₀ n m count₀ old₀ round₀ w count old round = n - count
 
 forget-dominators-requires : tie.Need-forget-dominators-requires Inv-loop μ-loop
 forget-dominators-requires c κs = let H = c .before .before .pre .ready .held in (H .few .1, H .long)
@@ -42,9 +42,9 @@ line-all-requires c κs =
     let f = a .before .before .before .before .before .before .before .forget-dominators in
     let d = a .before .before .before .found-classes in
     let l = a .loop in
-    let G : Refining v (g .n) (g .m) (l .w) (l .round) (l .count) =
+    let G : Refining v (g .n) (g .m) (l .w) (l .round) (l .old) (l .count) =
     l .inv .1 v (b .pre) (refining-first v (g .n) (g .m) (f .last .0) (f .ensures) (d .last .0) (d .result) (d .ensures) (b .pre)) in
-    refining-shape v (g .n) (g .m) (l .w) (l .round) (l .count) G (b .pre)
+    refining-shape v (g .n) (g .m) (l .w) (l .round) (l .old) (l .count) G (b .pre)
 
 add-split-all : tie.Need-add-split-all Inv-loop μ-loop
 add-split-all c =
@@ -55,7 +55,7 @@ add-split-all c =
     let f = a .before .before .before .before .before .before .before .forget-dominators in
     let d = a .before .before .before .found-classes in
     let l = a .loop in
-    let G : Refining v (g .n) (g .m) (l .w) (l .round) (l .count) =
+    let G : Refining v (g .n) (g .m) (l .w) (l .round) (l .old) (l .count) =
     l .inv .1 v (b .pre) (refining-first v (g .n) (g .m) (f .last .0) (f .ensures) (d .last .0) (d .result) (d .ensures) (b .pre)) in
     omega (arith, G .early, classed-count (G .classed), b .pre .ready .held .few)
 
@@ -68,15 +68,15 @@ split-all-requires c κs =
     let f = a .before .before .before .before .before .before .before .forget-dominators in
     let d = a .before .before .before .found-classes in
     let l = a .loop in
-    let G : Refining v (g .n) (g .m) (l .w) (l .round) (l .count) =
+    let G : Refining v (g .n) (g .m) (l .w) (l .round) (l .old) (l .count) =
     l .inv .1 v (b .pre) (refining-first v (g .n) (g .m) (f .last .0) (f .ensures) (d .last .0) (d .result) (d .ensures) (b .pre)) in
     let u = c .before .before .before .line-all in
     let H = b .pre .ready .held in (
       H .few .0,
       omega (arith, H .long, G .same-set .long, u .ensures .only .long),
       omega (arith, G .early, classed-count (G .classed), H .few .0),
-      refining-classed v (g .n) (g .m) (l .w) (l .round) (l .count) G (u .last .0) (u .ensures) (b .pre),
-      refining-lines v (g .n) (g .m) (l .w) (l .round) (l .count) G (u .last .0) (u .ensures) (b .pre),
+      refining-classed v (g .n) (g .m) (l .w) (l .round) (l .old) (l .count) G (u .last .0) (u .ensures) (b .pre),
+      refining-lines v (g .n) (g .m) (l .w) (l .round) (l .old) (l .count) G (u .last .0) (u .ensures) (b .pre),
     )
 
 same-length : tie.Need-same-length Inv-loop μ-loop
@@ -104,11 +104,11 @@ returns c =
     let f = a .before .before .before .before .before .before .before .forget-dominators in
     let d = a .before .before .before .found-classes in
     let l = a .loop in
-    let G : Refining v (g .n) (g .m) (l .w) (l .round) (l .count) =
+    let G : Refining v (g .n) (g .m) (l .w) (l .round) (l .old) (l .count) =
     l .inv .1 v (b .pre) (refining-first v (g .n) (g .m) (f .last .0) (f .ensures) (d .last .0) (d .result) (d .ensures) (b .pre)) in
     let u = c .before .before .before .before .before .before .before .line-all in
     let s = c .before .before .before .split-all in
-    refining-last v (g .n) (g .m) (l .w) (l .round) (l .count) G (u .last .0) (u .ensures) (s .last .0) (s .result) (s .ensures)
+    refining-last v (g .n) (g .m) (l .w) (l .round) (l .old) (l .count) G (u .last .0) (u .ensures) (s .last .0) (s .result) (s .ensures)
     (c .if1 .taken)
 
 add-round : tie.Need-add-round Inv-loop μ-loop
@@ -120,7 +120,7 @@ add-round c =
     let f = a .before .before .before .before .before .before .before .forget-dominators in
     let d = a .before .before .before .found-classes in
     let l = a .loop in
-    let G : Refining v (g .n) (g .m) (l .w) (l .round) (l .count) =
+    let G : Refining v (g .n) (g .m) (l .w) (l .round) (l .old) (l .count) =
     l .inv .1 v (b .pre) (refining-first v (g .n) (g .m) (f .last .0) (f .ensures) (d .last .0) (d .result) (d .ensures) (b .pre)) in
     omega (arith, G .early, classed-count (G .classed), b .pre .ready .held .few)
 
@@ -133,7 +133,7 @@ loop-less c =
     let f = a .before .before .before .before .before .before .before .forget-dominators in
     let d = a .before .before .before .found-classes in
     let l = a .loop in
-    let G : Refining v (g .n) (g .m) (l .w) (l .round) (l .count) =
+    let G : Refining v (g .n) (g .m) (l .w) (l .round) (l .old) (l .count) =
     l .inv .1 v (b .pre) (refining-first v (g .n) (g .m) (f .last .0) (f .ensures) (d .last .0) (d .result) (d .ensures) (b .pre)) in
     let s = c .before .before .before .split-all in
     omega (arith, s .ensures .more, classed-count (s .ensures .classed), c .if1 .left)
@@ -146,7 +146,7 @@ loop-again c =
     let u = c .before .before .before .before .before .before .before .line-all in
     let s = c .before .before .before .split-all in (
       omega (arith, l .inv .0, u .ensures .only .long, s .ensures .only .long),
-      (λ v Y G. refining-next v (g .n) (g .m) (l .w) (l .round) (l .count) (l .inv .1 v Y G) (u .last .0) (u .ensures) (s .last .0)
+      (λ v Y G. refining-next v (g .n) (g .m) (l .w) (l .round) (l .old) (l .count) (l .inv .1 v Y G) (u .last .0) (u .ensures) (s .last .0)
           (s .result)
           (s .ensures) (c .if1 .left)),
     )

@@ -1,9 +1,11 @@
 -- `read_sheet` reads the sections one after another; the first refusal is handed up, and the sheet is made of what was read.
-use mathlib.Core.Path.{refl, sym, _∙_}
+use mathlib.Core.Path.{refl, sym, subst, _∙_}
+use Rattle.lists.specs.Tables.{tabulate-length}
 use Rattle.sheets.specs.Reading.{readSheet}
 use Rattle.closing.specs.Layout.{rulesIn}
-use Rattle.held.specs.Held.{nodesIn, startsIn}
+use Rattle.held.specs.Held.{nodeIn, nodesIn, startsIn}
 use Rattle.held.specs.AnswerLaws.{answer-got, answer-refused, with-got, with-refused, same-value, refused-never}
+use Rattle.opening.specs.Table.{Few}
 use Rattle.sheets.specs.FieldLaws.{facts-gets}
 use Rattle.sheets.specs.SectionLaws.{rules-gets}
 use Rattle.sheets.specs.ReadingLaws.{no-facts, no-rules, no-nodes, no-starts, more-bytes, all-read}
@@ -26,9 +28,9 @@ no-sheet-requires c κs = search needs
 
 returns : tie.Need-returns
 returns c =
+    let s = c .before .before .before .before .before .args .s .now in
     let told = c .before .enum-told .given .1 in
-    sheet-refused (readSheet (c .before .before .before .before .before .args .s .now)) (c .no-sheet .result) (c .no-sheet .ensures) told
-    (no-facts (c .before .before .before .before .before .args .s .now) (answer-refused (c .before .before .before .facts-at .ensures) told))
+    sheet-refused (readSheet s) (c .no-sheet .result) (c .no-sheet .ensures) told (no-facts s (answer-refused (c .before .before .before .facts-at .ensures) told))
 
 rules-at-requires : tie.Need-rules-at-requires
 rules-at-requires c κs =
@@ -83,13 +85,14 @@ returns-3 c =
 
 starts-at-requires : tie.Need-starts-at-requires
 starts-at-requires c κs =
-    let s = c .before .before .before .before .before .before .before .before .before .before .before .before .before .before .before .before .args .s .now in
-    let f = answer-got (c .before .before .before .before .before .before .before .before .before .before .before .before .before .before .facts-at .ensures) (c .before .before .before .before .before .before .before .before .before .before .before .before .f .given .1) in
-    let g = with-got (rulesIn (c .before .before .before .before .before .before .before .before .before .before .rules-at .result .rules)) (c .before .before .before .before .before .before .before .before .before .before .rules-at .ensures) (c .before .before .before .before .before .before .before .before .g .given .1) in
+    let s = c .before .before .before .before .before .before .before .before .before .before .before .before .before .before .before .before .before .before .before .before .before .args .s .now in
+    let f = answer-got (c .before .before .before .before .before .before .before .before .before .before .before .before .before .before .before .before .before .before .before .facts-at .ensures) (c .before .before .before .before .before .before .before .before .before .before .before .before .before .before .before .before .before .f .given .1) in
+    let g = with-got (rulesIn (c .before .before .before .before .before .before .before .before .before .before .before .before .before .before .before .rules-at .result .rules)) (c .before .before .before .before .before .before .before .before .before .before .before .before .before .before .before .rules-at .ensures) (c .before .before .before .before .before .before .before .before .before .before .before .before .before .g .given .1) in
     let n = facts-gets s 0 .holds _ _ f in
     let r = rules-gets _ s _ .holds _ _ g in
-    let m = c .before .before .before .before .nodes-at .ensures .held _ _ (c .before .before .h .given .1) in
-    (m .within, n .0, count-few (c .before .before .before .before .before .before .before .before .before .before .rules-at .result .rules) _ (r .0 .few), m .few, m .table)
+    let m = c .before .before .before .before .before .before .before .before .before .nodes-at .ensures .held _ _ (c .before .before .before .before .before .before .before .h .given .1) in
+    let long = tabulate-length (nodeIn (c .before .before .before .before .before .before .before .before .before .nodes-at .result .nodes)) (c .before .before .before .before .before .before .before .h .given .0 .0) in
+    (m .within, n .0, count-few (c .before .before .before .before .before .before .before .before .before .before .before .before .before .before .before .rules-at .result .rules) _ (r .0 .few), m .few, m .room, subst (Few (c .before .before .before .before .before .before .before .before .before .nodes-at .result .opened)) long (m .table .few))
 
 enum-known-k : tie.Need-enum-known-k
 enum-known-k c = search needs
@@ -102,37 +105,42 @@ no-sheet-requires-4 c κs = search needs
 
 returns-4 : tie.Need-returns-4
 returns-4 c =
-    let s = c .before .before .before .before .before .before .before .before .before .before .before .before .before .before .before .before .before .before .before .before .args .s .now in
-    let f = answer-got (c .before .before .before .before .before .before .before .before .before .before .before .before .before .before .before .before .before .before .facts-at .ensures) (c .before .before .before .before .before .before .before .before .before .before .before .before .before .before .before .before .f .given .1) in
-    let g = with-got (rulesIn (c .before .before .before .before .before .before .before .before .before .before .before .before .before .before .rules-at .result .rules)) (c .before .before .before .before .before .before .before .before .before .before .before .before .before .before .rules-at .ensures) (c .before .before .before .before .before .before .before .before .before .before .before .before .g .given .1) in
-    let h = with-got (nodesIn (c .before .before .before .before .before .before .before .before .nodes-at .result .nodes)) (c .before .before .before .before .before .before .before .before .nodes-at .ensures .reading) (c .before .before .before .before .before .before .h .given .1) in
+    let s = c .before .before .before .before .before .before .before .before .before .before .before .before .before .before .before .before .before .before .before .before .before .before .before .before .before .args .s .now in
+    let f = answer-got (c .before .before .before .before .before .before .before .before .before .before .before .before .before .before .before .before .before .before .before .before .before .before .before .facts-at .ensures) (c .before .before .before .before .before .before .before .before .before .before .before .before .before .before .before .before .before .before .before .before .before .f .given .1) in
+    let g = with-got (rulesIn (c .before .before .before .before .before .before .before .before .before .before .before .before .before .before .before .before .before .before .before .rules-at .result .rules)) (c .before .before .before .before .before .before .before .before .before .before .before .before .before .before .before .before .before .before .before .rules-at .ensures) (c .before .before .before .before .before .before .before .before .before .before .before .before .before .before .before .before .before .g .given .1) in
+    let h = with-got (nodesIn (c .before .before .before .before .before .before .before .before .before .before .before .before .before .nodes-at .result .nodes)) (c .before .before .before .before .before .before .before .before .before .before .before .before .before .nodes-at .ensures .reading) (c .before .before .before .before .before .before .before .before .before .before .before .h .given .1) in
+    let m = c .before .before .before .before .before .before .before .before .before .before .before .before .before .nodes-at .ensures .held _ _ (c .before .before .before .before .before .before .before .before .before .before .before .h .given .1) in
+    let long = tabulate-length (nodeIn (c .before .before .before .before .before .before .before .before .before .before .before .before .before .nodes-at .result .nodes)) (c .before .before .before .before .before .before .before .before .before .before .before .h .given .0 .0) in
     let told = c .before .enum-told4 .given .1 in
     sheet-refused (readSheet s) (c .no-sheet4 .result) (c .no-sheet4 .ensures) told
-    (no-starts s f g h (with-refused (startsIn (c .before .before .before .starts-at .result .starts)) (c .before .before .before .starts-at .ensures .reading) told))
+    (no-starts s f g h (with-refused (startsIn (c .before .before .before .starts-at .result .starts)) (c .before .before .before .starts-at .ensures .reading (nodesIn (c .before .before .before .before .before .before .before .before .before .before .before .before .before .nodes-at .result .nodes) (c .before .before .before .before .before .before .before .before .before .before .before .h .given .0 .0)) (record { long = long; table = m .table })) told))
 
 no-sheet-requires-5 : tie.Need-no-sheet-requires-5
 no-sheet-requires-5 c κs = search needs
 
 returns-5 : tie.Need-returns-5
 returns-5 c =
-    let s = c .before .before .before .before .before .before .before .before .before .before .before .before .before .before .before .before .before .before .before .before .before .before .args .s .now in
-    let f = answer-got (c .before .before .before .before .before .before .before .before .before .before .before .before .before .before .before .before .before .before .before .before .facts-at .ensures) (c .before .before .before .before .before .before .before .before .before .before .before .before .before .before .before .before .before .before .f .given .1) in
-    let g = with-got (rulesIn (c .before .before .before .before .before .before .before .before .before .before .before .before .before .before .before .before .rules-at .result .rules)) (c .before .before .before .before .before .before .before .before .before .before .before .before .before .before .before .before .rules-at .ensures) (c .before .before .before .before .before .before .before .before .before .before .before .before .before .before .g .given .1) in
-    let h = with-got (nodesIn (c .before .before .before .before .before .before .before .before .before .before .nodes-at .result .nodes)) (c .before .before .before .before .before .before .before .before .before .before .nodes-at .ensures .reading) (c .before .before .before .before .before .before .before .before .h .given .1) in
-    let k = with-got (startsIn (c .before .before .before .before .before .starts-at .result .starts)) (c .before .before .before .before .before .starts-at .ensures .reading) (c .before .before .before .k .given .1) in
+    let s = c .before .before .before .before .before .before .before .before .before .before .before .before .before .before .before .before .before .before .before .before .before .before .before .before .before .before .before .args .s .now in
+    let f = answer-got (c .before .before .before .before .before .before .before .before .before .before .before .before .before .before .before .before .before .before .before .before .before .before .before .before .before .facts-at .ensures) (c .before .before .before .before .before .before .before .before .before .before .before .before .before .before .before .before .before .before .before .before .before .before .before .f .given .1) in
+    let g = with-got (rulesIn (c .before .before .before .before .before .before .before .before .before .before .before .before .before .before .before .before .before .before .before .before .before .rules-at .result .rules)) (c .before .before .before .before .before .before .before .before .before .before .before .before .before .before .before .before .before .before .before .before .before .rules-at .ensures) (c .before .before .before .before .before .before .before .before .before .before .before .before .before .before .before .before .before .before .before .g .given .1) in
+    let h = with-got (nodesIn (c .before .before .before .before .before .before .before .before .before .before .before .before .before .before .before .nodes-at .result .nodes)) (c .before .before .before .before .before .before .before .before .before .before .before .before .before .before .before .nodes-at .ensures .reading) (c .before .before .before .before .before .before .before .before .before .before .before .before .before .h .given .1) in
+    let m = c .before .before .before .before .before .before .before .before .before .before .before .before .before .before .before .nodes-at .ensures .held _ _ (c .before .before .before .before .before .before .before .before .before .before .before .before .before .h .given .1) in
+    let long = tabulate-length (nodeIn (c .before .before .before .before .before .before .before .before .before .before .before .before .before .before .before .nodes-at .result .nodes)) (c .before .before .before .before .before .before .before .before .before .before .before .before .before .h .given .0 .0) in
+    let k = with-got (startsIn (c .before .before .before .before .before .starts-at .result .starts)) (c .before .before .before .before .before .starts-at .ensures .reading (nodesIn (c .before .before .before .before .before .before .before .before .before .before .before .before .before .before .before .nodes-at .result .nodes) (c .before .before .before .before .before .before .before .before .before .before .before .before .before .h .given .0 .0)) (record { long = long; table = m .table })) (c .before .before .before .k .given .1) in
     sheet-refused (readSheet s) (c .no-sheet5 .result) (c .no-sheet5 .ensures) refl (more-bytes s f g h k (c .before .if1 .taken))
 
 returns-6 : tie.Need-returns-6
 returns-6 c =
-    let s = c .before .before .before .before .before .before .before .before .before .before .before .before .before .before .before .before .before .before .before .before .before .before .before .before .args .s .now in
-    let f = answer-got (c .before .before .before .before .before .before .before .before .before .before .before .before .before .before .before .before .before .before .before .before .before .before .facts-at .ensures) (c .before .before .before .before .before .before .before .before .before .before .before .before .before .before .before .before .before .before .before .before .f .given .1) in
-    let g = with-got (rulesIn (c .before .before .before .before .before .before .before .before .before .before .before .before .before .before .before .before .before .before .rules-at .result .rules)) (c .before .before .before .before .before .before .before .before .before .before .before .before .before .before .before .before .before .before .rules-at .ensures) (c .before .before .before .before .before .before .before .before .before .before .before .before .before .before .before .before .g .given .1) in
-    let h = with-got (nodesIn (c .before .before .before .before .before .before .before .before .before .before .before .before .nodes-at .result .nodes)) (c .before .before .before .before .before .before .before .before .before .before .before .before .nodes-at .ensures .reading) (c .before .before .before .before .before .before .before .before .before .before .h .given .1) in
-    let k = with-got (startsIn (c .before .before .before .before .before .before .before .starts-at .result .starts)) (c .before .before .before .before .before .before .before .starts-at .ensures .reading) (c .before .before .before .before .before .k .given .1) in
-    let m = c .before .before .before .before .before .before .before .before .before .before .before .before .nodes-at .ensures .held _ _ (c .before .before .before .before .before .before .before .before .before .before .h .given .1) in
-    let t = c .before .before .before .before .before .before .before .starts-at .ensures .held _ _ (c .before .before .before .before .before .k .given .1) in
+    let s = c .before .before .before .before .before .before .before .before .before .before .before .before .before .before .before .before .before .before .before .before .before .before .before .before .before .before .before .before .args .s .now in
+    let f = answer-got (c .before .before .before .before .before .before .before .before .before .before .before .before .before .before .before .before .before .before .before .before .before .before .before .before .before .before .facts-at .ensures) (c .before .before .before .before .before .before .before .before .before .before .before .before .before .before .before .before .before .before .before .before .before .before .before .before .f .given .1) in
+    let g = with-got (rulesIn (c .before .before .before .before .before .before .before .before .before .before .before .before .before .before .before .before .before .before .before .before .before .before .rules-at .result .rules)) (c .before .before .before .before .before .before .before .before .before .before .before .before .before .before .before .before .before .before .before .before .before .before .rules-at .ensures) (c .before .before .before .before .before .before .before .before .before .before .before .before .before .before .before .before .before .before .before .before .g .given .1) in
+    let h = with-got (nodesIn (c .before .before .before .before .before .before .before .before .before .before .before .before .before .before .before .before .nodes-at .result .nodes)) (c .before .before .before .before .before .before .before .before .before .before .before .before .before .before .before .before .nodes-at .ensures .reading) (c .before .before .before .before .before .before .before .before .before .before .before .before .before .before .h .given .1) in
+    let m = c .before .before .before .before .before .before .before .before .before .before .before .before .before .before .before .before .nodes-at .ensures .held _ _ (c .before .before .before .before .before .before .before .before .before .before .before .before .before .before .h .given .1) in
+    let long = tabulate-length (nodeIn (c .before .before .before .before .before .before .before .before .before .before .before .before .before .before .before .before .nodes-at .result .nodes)) (c .before .before .before .before .before .before .before .before .before .before .before .before .before .before .h .given .0 .0) in
+    let k = with-got (startsIn (c .before .before .before .before .before .before .starts-at .result .starts)) (c .before .before .before .before .before .before .starts-at .ensures .reading (nodesIn (c .before .before .before .before .before .before .before .before .before .before .before .before .before .before .before .before .nodes-at .result .nodes) (c .before .before .before .before .before .before .before .before .before .before .before .before .before .before .h .given .0 .0)) (record { long = long; table = m .table })) (c .before .before .before .before .k .given .1) in
+    let t = c .before .before .before .before .before .before .starts-at .ensures .held _ _ (c .before .before .before .before .k .given .1) in
     record {
-      reading = sym (all-read s f g h k (c .before .before .before .if1 .left));
+      reading = sym (all-read s f g h k (c .before .before .if1 .left));
       held = λ n end e. record { starts = same-value refl e; opened = m .table; threads = t .threads };
       empty = λ number place e. refused-never e refl;
     }

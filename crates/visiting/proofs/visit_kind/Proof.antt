@@ -132,7 +132,7 @@ visit-either-requires c κs =
     let is = held-either (a .kinds .now) (a .firsts .now) (a .seconds .now) (a .b .nodes) (a .e .store) fit
     (k .0 .0 .0 .1) (k .0 .0 .1) (k .0 .1) (k .1) in
     let n = lower-either (h .lower) is in
-    (omega (arith, o .pre .1 .collecting .long), o .pre .3, n .0, n .1, o .pre .4)
+    (omega (arith, o .pre .1 .collecting .long), o .pre .3, n .0, n .1, o .pre .4, λ i l. o .pre .1 .entries i l .packed)
 
 returns : tie.Need-returns
 returns c =

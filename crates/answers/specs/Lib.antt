@@ -1,0 +1,5 @@
+pub mod ReadBack
+pub mod Fitting
+pub mod MemberPlaces
+pub mod FittingLaws
+pub mod ReadBackLaws

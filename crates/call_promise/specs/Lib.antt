@@ -1,0 +1,2 @@
+pub mod CallPromise
+pub mod CallPromiseLaws

@@ -1,0 +1,1 @@
+// What is promised of the comparing call: statements and their proof, no code.

@@ -1,0 +1,36 @@
+-- The call's own answer, as numbers.
+use borrow.Author.Needs.{needs}
+use Rattle.hofadiju.specs.NumberLaws.{call-handed}
+use Rattle.hofadiju.proofs.hofadiju_compare.Statement.{statement}
+use Rattle.hofadiju.proofs.hofadiju_compare.Tie as tie
+
+compare-requires : tie.Need-compare-requires
+compare-requires c κs = search needs
+
+answer-numbers-requires : tie.Need-answer-numbers-requires
+answer-numbers-requires c κs = search needs
+
+answer-number-requires : tie.Need-answer-number-requires
+answer-number-requires c κs = search needs
+
+same-length : tie.Need-same-length
+same-length c = search needs
+
+same-length-2 : tie.Need-same-length-2
+same-length-2 c = search needs
+
+returns : tie.Need-returns
+returns c =
+    call-handed (c .before .before .before .before .before .before .compare .ensures) (c .answer-number .ensures)
+    (c .before .answer-numbers .ensures)
+
+pub hofadiju-compare-spec : {M : Type 1} → statement M
+hofadiju-compare-spec =
+    tie.close
+    (tie.spec
+    compare-requires
+    answer-numbers-requires
+    answer-number-requires
+    same-length
+    same-length-2
+    returns)

@@ -1,0 +1,23 @@
+-- The test of the place decides.
+use borrow.Author.Needs.{needs}
+use borrow.Author.Tests.{lt-ltb, le-ltb}
+use Rattle.plain_tables.proofs.second.Statement.{statement}
+use Rattle.plain_tables.proofs.second.Tie as tie
+
+mul-number-at : tie.Need-mul-number-at
+mul-number-at c = search needs
+
+add-number-at : tie.Need-add-number-at
+add-number-at c = search needs
+
+number-at-requires : tie.Need-number-at-requires
+number-at-requires c κs = search needs
+
+returns : tie.Need-returns
+returns c = simp (lt-ltb _ _ (c .before .if1 .taken)) (c .number-at .ensures)
+
+returns-2 : tie.Need-returns-2
+returns-2 c = simp (le-ltb _ _ (c .if1 .left))
+
+pub second-spec : {M : Type 1} → statement M
+second-spec = tie.close (tie.spec mul-number-at add-number-at number-at-requires returns returns-2)

@@ -1,0 +1,102 @@
+/* Hofadiju: compares two starts of a control sheet (document 01).
+ *
+ * Link with target/staticlib/libhofadiju.a, which `rt staticlib hofadiju` writes (x86-64 Linux). The
+ * function keeps no state: any number of threads may call it at the same time, each with its own
+ * slices. It allocates nothing. c/compare.c is an example.
+ */
+#ifndef HOFADIJU_H
+#define HOFADIJU_H
+
+#include <stddef.h>
+#include <stdint.h>
+
+#ifdef __cplusplus
+extern "C" {
+#endif
+
+/* An answer slice of this many bytes always suffices. */
+#define HOFADIJU_ANSWER_BYTES 10237
+
+/* The work slice must have at least this many numbers of 32 bits. */
+#define HOFADIJU_WORK_NUMBERS 16384
+
+/* The longest sheet that is read has this many bytes; every longer one is refused. */
+#define HOFADIJU_LONGEST_SHEET 724
+
+/* What the function returns: HOFADIJU_REPORT, or the number of a refusal. The place of a refusal is
+ * the byte of the sheet at which the field begins, unless it is said otherwise. */
+enum hofadiju_number {
+    HOFADIJU_REPORT = 0,            /* a report was written */
+    HOFADIJU_CUT_OFF = 1,           /* a field is cut off by the sheet's end; the place is the sheet's length */
+    HOFADIJU_TOO_MANY_FACTS = 2,    /* more than 12 facts */
+    HOFADIJU_BAD_NAME_BYTE = 3,     /* a name byte outside 32 to 126; the place is that byte's */
+    HOFADIJU_TOO_MANY_RULES = 4,    /* more than 32 rules */
+    HOFADIJU_ABSENT_FACT = 5,       /* a set holds a fact that is not on the sheet */
+    HOFADIJU_EMPTY_PREMISE = 6,     /* the premise of a rule is empty */
+    HOFADIJU_NODE_COUNT = 7,        /* no node, or more than 64 */
+    HOFADIJU_BAD_KIND = 8,          /* a kind byte above 4 */
+    HOFADIJU_BAD_NODE = 9,          /* a node number that is not allowed there */
+    HOFADIJU_UNUSED_FIELD = 10,     /* a field that its node's kind does not use is not 0 */
+    HOFADIJU_START_COUNT = 11,      /* fewer than 2 starts, or more than 16 */
+    HOFADIJU_TOO_MANY_THREADS = 12, /* a start has more than 8 threads, as written or once opened; the
+                                       place is its thread count */
+    HOFADIJU_EXTRA_BYTES = 13,      /* bytes after the last start; the place is the first of them */
+    HOFADIJU_ABSENT_START = 14,     /* a chosen start is not on the sheet; place 0 for left, 1 for right */
+    HOFADIJU_WIDE_NODE = 15,        /* a node opens to more than 8 threads; the place is its kind byte */
+    HOFADIJU_TOO_LARGE = 21,        /* more than 512 configurations, one of more than 8 threads, or more
+                                       than 4096 moves in all; place 0 */
+    HOFADIJU_ANSWER_SHORT = 22,     /* the answer slice is too short; the place is the length needed */
+    HOFADIJU_WORK_SHORT = 23        /* the work slice is too short; place 0 */
+};
+
+/* Where the numbers stand in result. What does not apply is 0. */
+enum hofadiju_result {
+    HOFADIJU_VERDICT = 0, /* HOFADIJU_SAME or HOFADIJU_DIFF */
+    HOFADIJU_ROUND = 1,   /* SAME: the round in which the refinement came to rest.
+                             DIFF: the least number of moves that tells the two starts apart */
+    HOFADIJU_LEFT = 2,    /* the position of the left start among the members */
+    HOFADIJU_RIGHT = 3,   /* the position of the right start */
+    HOFADIJU_LENGTH = 4,  /* how many bytes of the answer slice the report takes */
+    HOFADIJU_PLACE = 5    /* the place of the refusal */
+};
+#define HOFADIJU_RESULT_NUMBERS 6
+
+#define HOFADIJU_SAME 0
+#define HOFADIJU_DIFF 1
+
+/* In the answer: a step without a reply has this for the reply's target. */
+#define HOFADIJU_NO_REPLY 65535
+
+/* Compares the starts numbered left and right, from 0, of the sheet.
+ *
+ * Every pointer must be non-null, also where its length is 0, and aligned for its type; answer, work,
+ * result and sheet must not overlap. result is always written whole.
+ *
+ * The answer, numbers of two bytes with the low byte first:
+ *   count of members        2 bytes
+ *   for each member, in order of store, number of threads and threads:
+ *     store                 2 bytes   fact i has weight 2 to the power i
+ *     count of threads      1 byte    0 to 8
+ *     threads               1 byte each, node numbers, ascending
+ *     class                 2 bytes   members behave alike exactly where the class is the same
+ *   count of steps          2 bytes   the trail: how to tell the two starts apart
+ *   for each step:
+ *     side that moves       1 byte    0 left, 1 right
+ *     label                 2 bytes   the set that is added to the store first
+ *     mover's target        2 bytes   a position among the members
+ *     reply's target        2 bytes   likewise, or HOFADIJU_NO_REPLY
+ * Bytes of the answer slice beyond the length stay as they are; a refusal leaves the whole slice as it is.
+ *
+ * The work slice is room to work in; its contents matter to nothing. After a report and after 21 and 22
+ * its first HOFADIJU_WORK_NUMBERS numbers are 0; every other refusal leaves it as it is. Later numbers
+ * are never touched.
+ */
+uint32_t hofadiju_compare(const uint8_t *sheet, size_t sheet_len, size_t left, size_t right,
+                          uint8_t *answer, size_t answer_len, uint32_t *work, size_t work_len,
+                          size_t result[6]);
+
+#ifdef __cplusplus
+}
+#endif
+
+#endif

@@ -1,0 +1,163 @@
+//! The library beside the reference written for speed, on the same sheets in one run.
+//!
+//!     rust/bench [DIRECTORY...]
+//!
+//! Both are given the same call: reading included, the same answer and work slices, the work slice
+//! cleared by the call; the reference also keeps its own buffers from call to call. For each sheet
+//! the two take turns, and the least time of several turns counts. A directory's `*.sheet` files form
+//! a class of their own.
+
+use hofadiju::{compare_into, ANSWER_BYTES, WORK_NUMBERS};
+use reference::fast::Comparer;
+use sheets::{alike_pair, draw, Rng, Shape, SHAPES};
+use std::hint::black_box;
+use std::path::{Path, PathBuf};
+use std::time::{Duration, Instant};
+
+/// How often the two take turns on a sheet, and about how long one turn lasts.
+const TURNS: usize = 7;
+const TURN: Duration = Duration::from_micros(200);
+
+struct Slices {
+    answer: Vec<u8>,
+    work: Vec<u32>,
+}
+
+struct Class {
+    name: String,
+    sheets: Vec<(String, Vec<u8>)>,
+}
+
+/// The least time of one call of each, in nanoseconds, and whether the sheet was refused.
+struct Measured {
+    library: f64,
+    peer: f64,
+    refused: bool,
+}
+
+fn library(sheet: &[u8], slices: &mut Slices) -> Result<usize, u32> {
+    let outcome = compare_into(sheet, 0, 1, &mut slices.answer, &mut slices.work);
+    outcome.map(|outcome| outcome.length).map_err(|refusal| refusal.number())
+}
+
+fn peer(sheet: &[u8], slices: &mut Slices, comparer: &mut Comparer) -> Result<usize, u32> {
+    match comparer.compare(sheet, 0, 1, &mut slices.answer, &mut slices.work) {
+        (0, result) => Ok(result[4]),
+        (number, _) => Err(number),
+    }
+}
+
+/// Nanoseconds of one call, where `calls` are made.
+fn time<T>(calls: usize, mut call: impl FnMut() -> T) -> f64 {
+    let before = Instant::now();
+    for _ in 0..calls {
+        black_box(call());
+    }
+    before.elapsed().as_nanos() as f64 / calls as f64
+}
+
+fn calls_in_a_turn(once: f64) -> usize {
+    (TURN.as_nanos() as f64 / once.max(1.0)).clamp(1.0, 10_000.0) as usize
+}
+
+fn measure(sheet: &[u8], slices: &mut Slices, comparer: &mut Comparer) -> Measured {
+    let outcome = library(sheet, slices);
+    let bytes = slices.answer.clone();
+    assert_eq!(peer(sheet, slices, comparer), outcome, "{sheet:?}");
+    assert!(bytes == slices.answer, "{sheet:?}");
+    let library_calls = calls_in_a_turn(time(1, || library(sheet, slices)));
+    let peer_calls = calls_in_a_turn(time(1, || peer(sheet, slices, comparer)));
+    let mut least = Measured { library: f64::MAX, peer: f64::MAX, refused: outcome.is_err() };
+    for _ in 0..TURNS {
+        least.library = least.library.min(time(library_calls, || library(sheet, slices)));
+        least.peer = least.peer.min(time(peer_calls, || peer(sheet, slices, comparer)));
+    }
+    least
+}
+
+fn median(mut numbers: Vec<f64>) -> f64 {
+    numbers.sort_by(f64::total_cmp);
+    let middle = numbers.len() / 2;
+    if numbers.len() % 2 == 1 {
+        numbers[middle]
+    } else {
+        (numbers[middle - 1] + numbers[middle]) / 2.0
+    }
+}
+
+/// A time in microseconds.
+fn micros(nanos: f64) -> String {
+    match nanos / 1_000.0 {
+        few if few < 100.0 => format!("{few:.1}"),
+        many => format!("{many:.0}"),
+    }
+}
+
+fn drawn(name: &str, count: usize, seed: u64, shape: &Shape, make: fn(&Shape, &mut Rng) -> sheets::Draft) -> Class {
+    let mut rng = Rng::new(seed);
+    let sheets = (0..count).map(|i| (format!("{name} {i}"), make(shape, &mut rng).bytes())).collect();
+    Class { name: name.to_string(), sheets }
+}
+
+fn found(folder: &Path) -> Class {
+    let entries = std::fs::read_dir(folder).unwrap_or_else(|error| panic!("{}: {error}", folder.display()));
+    let mut files: Vec<PathBuf> = entries.map(|entry| entry.unwrap().path()).collect();
+    files.retain(|file| file.extension().is_some_and(|ending| ending == "sheet"));
+    files.sort();
+    let name = |file: &Path| file.file_stem().unwrap().to_string_lossy().into_owned();
+    let sheets = files.iter().map(|file| (name(file), std::fs::read(file).unwrap())).collect();
+    Class { name: name(folder), sheets }
+}
+
+fn shape(name: &str) -> &'static Shape {
+    SHAPES.iter().find(|shape| shape.name == name).expect("a shape of this name")
+}
+
+fn main() {
+    let here = Path::new(env!("CARGO_MANIFEST_DIR"));
+    let mut classes = vec![
+        found(&here.join("../samples")),
+        drawn("small random", 400, 1, shape("small"), draw),
+        drawn("medium random", 200, 2, shape("medium"), draw),
+        drawn("large random", 100, 3, shape("large"), draw),
+        drawn("alike pairs", 200, 4, shape("medium"), alike_pair),
+        found(&here.join("benches/worst")),
+    ];
+    let words = std::env::args().skip(1).filter(|word| !word.starts_with('-'));
+    classes.extend(words.map(|word| found(Path::new(&word))));
+
+    let mut slices = Slices { answer: vec![0; ANSWER_BYTES], work: vec![0; WORK_NUMBERS] };
+    let mut comparer = Comparer::new();
+    let mut single = String::new();
+    println!("Times in microseconds; ratio is library / reference.\n");
+    println!("| Sheets | Count | Refused | Ratio, median | Library, median | Reference, median | Library, worst | Reference, worst |");
+    println!("|---|---|---|---|---|---|---|---|");
+    for class in &classes {
+        let measured: Vec<Measured> =
+            class.sheets.iter().map(|(_, sheet)| measure(sheet, &mut slices, &mut comparer)).collect();
+        if measured.is_empty() {
+            continue;
+        }
+        let all = |of: fn(&Measured) -> f64| measured.iter().map(of).collect::<Vec<f64>>();
+        let most = |of: fn(&Measured) -> f64| all(of).into_iter().fold(0.0, f64::max);
+        println!(
+            "| {} | {} | {} | {:.2} | {} | {} | {} | {} |",
+            class.name,
+            measured.len(),
+            measured.iter().filter(|measured| measured.refused).count(),
+            median(all(|m| m.library / m.peer)),
+            micros(median(all(|m| m.library))),
+            micros(median(all(|m| m.peer))),
+            micros(most(|m| m.library)),
+            micros(most(|m| m.peer)),
+        );
+        if class.sheets.len() <= 40 {
+            for ((name, _), m) in class.sheets.iter().zip(&measured) {
+                let (library, peer) = (micros(m.library), micros(m.peer));
+                single +=
+                    &format!("| {} {} | {:.2} | {} | {} |\n", class.name, name, m.library / m.peer, library, peer);
+            }
+        }
+    }
+    println!("\n| Sheet | Ratio | Library | Reference |\n|---|---|---|---|\n{single}");
+}

@@ -1,0 +1,41 @@
+//! Reads a sheet from a file and compares two of its starts.
+//!
+//!     cargo run --release --example compare -- ../samples/k-2-4.sheet [LEFT RIGHT]
+//!
+//! Without LEFT and RIGHT it compares starts 0 and 1. The exit status is 0 for SAME, 1 for DIFF, 2 for
+//! a refusal and 3 where the file or the numbers cannot be read.
+
+use hofadiju::{compare, Verdict};
+use std::process::ExitCode;
+
+fn main() -> ExitCode {
+    let words: Vec<String> = std::env::args().skip(1).collect();
+    let (file, left, right) = match words.as_slice() {
+        [file] => (file, Some(0), Some(1)),
+        [file, left, right] => (file, left.parse().ok(), right.parse().ok()),
+        _ => return failed("usage: compare FILE [LEFT RIGHT]"),
+    };
+    let (Some(left), Some(right)) = (left, right) else {
+        return failed("LEFT and RIGHT are the numbers of two starts");
+    };
+    let sheet = match std::fs::read(file) {
+        Ok(sheet) => sheet,
+        Err(error) => return failed(&format!("{file}: {error}")),
+    };
+    match compare(&sheet, left, right) {
+        Ok(report) => {
+            print!("{report}");
+            ExitCode::from(u8::from(report.verdict == Verdict::Diff))
+        }
+        Err(refusal) => {
+            println!("{}", refusal.line());
+            eprintln!("{file}: {refusal}");
+            ExitCode::from(2)
+        }
+    }
+}
+
+fn failed(message: &str) -> ExitCode {
+    eprintln!("{message}");
+    ExitCode::from(3)
+}

@@ -1,0 +1,99 @@
+//! The two implementations agree with each other, and with the sheets that document 01 knows.
+
+use reference::{fast, plain, Judgement, WORK_NUMBERS};
+use sheets::{alike_pair, draw, Draft, Rng, ASK, BOTH, EITHER, SHAPES, STOP, TELL};
+
+/// Sheet K of document 01.
+fn sheet_k(starts: &[(u16, &[u8])]) -> Draft {
+    let nodes = vec![
+        (STOP, 0, 0),
+        (TELL, 0, 0),
+        (ASK, 1, 1),
+        (ASK, 2, 1),
+        (EITHER, 2, 3),
+        (TELL, 4, 0),
+        (ASK, 2, 5),
+        (EITHER, 2, 6),
+        (BOTH, 1, 1),
+    ];
+    let starts = starts.iter().map(|(store, threads)| (*store, threads.to_vec())).collect();
+    Draft { facts: 3, rules: vec![(2, 1)], nodes, starts }
+}
+
+/// Verdict, round and steps as side, label, target, reply.
+type Short = (usize, usize, Vec<(u8, u16, u16, u16)>);
+
+fn short(draft: &Draft) -> Short {
+    let Judgement::Report { verdict, round, bytes, .. } = plain::judge(&draft.bytes(), 0, 1) else {
+        panic!("refused");
+    };
+    let number = |at: usize| u16::from_le_bytes([bytes[at], bytes[at + 1]]);
+    let mut at = 2;
+    for _ in 0..number(0) {
+        at += 5 + bytes[at + 2] as usize;
+    }
+    let step = |i: usize| at + 2 + 7 * i;
+    let steps = (0..number(at) as usize).map(step);
+    (verdict, round, steps.map(|at| (bytes[at], number(at + 1), number(at + 3), number(at + 5))).collect())
+}
+
+#[test]
+fn known_sheets() {
+    let k = |left: (u16, &[u8]), right: (u16, &[u8])| short(&sheet_k(&[left, right]));
+    assert_eq!(k((0, &[2]), (0, &[4])), (0, 1, vec![]));
+    let (verdict, round, _) = k((0, &[2]), (0, &[3]));
+    assert_eq!((verdict, round), (1, 1));
+    let (verdict, round, steps) = k((0, &[2]), (0, &[7]));
+    assert_eq!((verdict, round, steps.len()), (1, 2, 1));
+    assert_eq!((steps[0].0, steps[0].1, steps[0].3), (1, 3, 65535));
+    assert_eq!(k((0, &[1]), (1, &[1])), (1, 0, vec![]));
+    assert_eq!(k((0, &[]), (0, &[])), (0, 0, vec![]));
+    let (verdict, round, steps) = k((0, &[8]), (0, &[1]));
+    assert_eq!((verdict, round), (1, 2));
+    assert_eq!(steps.iter().map(|step| step.0).collect::<Vec<_>>(), [0, 0]);
+    let growing = Draft {
+        facts: 0,
+        rules: vec![],
+        nodes: vec![(TELL, 0, 0), (ASK, 0, 2), (BOTH, 0, 1)],
+        starts: vec![(0, vec![1]), (0, vec![1])],
+    };
+    assert_eq!(plain::judge(&growing.bytes(), 0, 1), Judgement::TooLarge);
+}
+
+struct Held {
+    comparer: fast::Comparer,
+    answer: Vec<u8>,
+    work: Vec<u32>,
+}
+
+impl Held {
+    fn new() -> Held {
+        Held { comparer: fast::Comparer::new(), answer: vec![], work: vec![0; WORK_NUMBERS] }
+    }
+
+    /// Holds one implementation to the other; gives the number that was returned.
+    fn hold(&mut self, bytes: &[u8], left: usize, right: usize) -> u32 {
+        let judgement = plain::judge(bytes, left, right);
+        let mut expected = vec![0xA5; 10_237];
+        let returned = judgement.call(&mut expected, &mut self.work);
+        self.answer.clear();
+        self.answer.resize(10_237, 0xA5);
+        let other = self.comparer.compare(bytes, left, right, &mut self.answer, &mut self.work);
+        assert!(returned == other && self.answer == expected, "{left} {right} {bytes:?}\n{returned:?}\n{other:?}");
+        returned.0
+    }
+}
+
+#[test]
+fn random_sheets() {
+    let mut held = Held::new();
+    for shape in &SHAPES {
+        let mut rng = Rng::new(1);
+        let mut seen = [0; 24];
+        for i in 0..1_500 {
+            let draft = if i % 3 == 0 { alike_pair(shape, &mut rng) } else { draw(shape, &mut rng) };
+            seen[held.hold(&draft.bytes(), 0, 1) as usize] += 1;
+        }
+        println!("{}: {} reports, {} too large, {} other", shape.name, seen[0], seen[21], 1_500 - seen[0] - seen[21]);
+    }
+}

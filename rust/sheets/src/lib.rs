@@ -1,0 +1,19 @@
+//! Sheets for tests and measurements, made from a seed: random sheets of many shapes, pairs of starts
+//! that are alike or nearly so, and damaged bytes.
+
+mod alike;
+mod draft;
+mod random;
+mod shapes;
+
+pub use alike::alike_pair;
+pub use draft::Draft;
+pub use random::Rng;
+pub use shapes::{draw, Shape, SHAPES};
+
+/// Kinds of nodes by their bytes.
+pub const STOP: u8 = 0;
+pub const TELL: u8 = 1;
+pub const ASK: u8 = 2;
+pub const BOTH: u8 = 3;
+pub const EITHER: u8 = 4;

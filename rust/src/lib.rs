@@ -1,0 +1,155 @@
+//! Hofadiju compares control sheets.
+//!
+//! A sheet holds small concurrent constraint processes (ccp) that post facts on a common store and
+//! wait for facts there. [`compare`] reads a sheet, takes two of its starts and reports whether they
+//! behave alike ([`Verdict::Same`]) or not ([`Verdict::Diff`]), with the classes of all configurations
+//! that matter and, for `Diff`, a trail that tells the two apart.
+//!
+//! This crate is a thin safe wrapper around a static library that is written and proved in Rattle. It
+//! has no dependencies. Calls share no state, so any number of threads may call at the same time.
+//!
+//! # Example
+//!
+//! Two starts on one sheet: "when fact 0 is there, post fact 1" and "post fact 1".
+//!
+//! ```
+//! use hofadiju::{compare, Side, Verdict};
+//!
+//! let mut sheet: Vec<u8> = Vec::new();
+//! sheet.push(2); // two facts, a name of 8 bytes each
+//! sheet.extend_from_slice(b"door    ");
+//! sheet.extend_from_slice(b"lamp    ");
+//! sheet.push(0); // no rules
+//! sheet.push(2); // two nodes: kind, first field, second field
+//! sheet.extend_from_slice(&[1, 2, 0, 0, 0]); // node 0: tell the set {lamp}, whose number is 2
+//! sheet.extend_from_slice(&[2, 1, 0, 0, 0]); // node 1: ask the set {door}, number 1, then node 0
+//! sheet.push(2); // two starts: store, thread count, threads
+//! sheet.extend_from_slice(&[0, 0, 1, 1]); // start 0: empty store, node 1
+//! sheet.extend_from_slice(&[0, 0, 1, 0]); // start 1: empty store, node 0
+//!
+//! let report = compare(&sheet, 0, 1)?;
+//! assert_eq!(report.verdict, Verdict::Diff);
+//! assert_eq!(report.round, 1);
+//! assert_eq!(report.steps[0].side, Side::Left); // the left start moves where {door} is added,
+//! assert_eq!(report.steps[0].label, 1);
+//! assert_eq!(report.steps[0].reply, None); // and the right start has no such move
+//!
+//! let refusal = compare(&sheet[..20], 0, 1).unwrap_err();
+//! assert_eq!(refusal.line(), "REFUSED 1 20");
+//! # Ok::<(), hofadiju::Refusal>(())
+//! ```
+
+#![warn(missing_docs)]
+
+mod refusal;
+mod report;
+
+pub use refusal::{Reason, Refusal};
+pub use report::{Member, Report, Side, Step, Verdict};
+
+/// An answer slice of this many bytes always suffices.
+pub const ANSWER_BYTES: usize = 10_237;
+
+/// The work slice must have at least this many numbers.
+pub const WORK_NUMBERS: usize = 16_384;
+
+/// The longest sheet that is read has this many bytes; every longer one is refused.
+pub const LONGEST_SHEET: usize = 724;
+
+extern "C" {
+    fn hofadiju_compare(
+        sheet: *const u8,
+        sheet_len: usize,
+        left: usize,
+        right: usize,
+        answer: *mut u8,
+        answer_len: usize,
+        work: *mut u32,
+        work_len: usize,
+        result: *mut [usize; 6],
+    ) -> u32;
+}
+
+/// What [`compare_into`] gives beside the bytes in the answer slice.
+#[derive(Clone, Copy, Debug, PartialEq, Eq, Hash)]
+pub struct Outcome {
+    /// Whether the two starts behave alike.
+    pub verdict: Verdict,
+    /// `Same`: the number of the round in which the refinement came to rest.
+    /// `Diff`: the least round that has the two starts in different classes.
+    pub round: usize,
+    /// The place of the left start among the members.
+    pub left: usize,
+    /// The place of the right start among the members.
+    pub right: usize,
+    /// How many bytes of the answer slice the report takes.
+    pub length: usize,
+}
+
+/// Compares the starts `left` and `right` of a sheet.
+///
+/// # Errors
+///
+/// A sheet that is not well formed, a start that is not on it, or a comparison that passes the limits
+/// is refused; see [`Reason`]. The refusals [`Reason::AnswerShort`] and [`Reason::WorkShort`] do not
+/// occur here.
+pub fn compare(sheet: &[u8], left: usize, right: usize) -> Result<Report, Refusal> {
+    let mut answer = vec![0; ANSWER_BYTES];
+    let mut work = vec![0; WORK_NUMBERS];
+    let outcome = compare_into(sheet, left, right, &mut answer, &mut work)?;
+    Ok(outcome.report(&answer).expect("the library writes the answer's layout"))
+}
+
+/// Compares as [`compare`] does, and allocates nothing.
+///
+/// The report is written into the front of `answer`; bytes beyond [`Outcome::length`] stay as they
+/// are. [`ANSWER_BYTES`] bytes always suffice. [`Outcome::report`] takes the bytes apart.
+///
+/// `work` is room to work in, of at least [`WORK_NUMBERS`] numbers. Its contents matter to nothing.
+/// After a report and after the refusals 21 and 22 its first [`WORK_NUMBERS`] numbers are 0; later
+/// ones are never touched.
+///
+/// # Errors
+///
+/// As [`compare`], and also [`Reason::WorkShort`] and [`Reason::AnswerShort`]. A refusal leaves
+/// `answer` untouched.
+pub fn compare_into(
+    sheet: &[u8],
+    left: usize,
+    right: usize,
+    answer: &mut [u8],
+    work: &mut [u32],
+) -> Result<Outcome, Refusal> {
+    let mut result = [0; 6];
+    // SAFETY: each pointer comes with its length from a reference, so it is not null, is aligned and
+    // valid for that length, and the exclusive references overlap nothing. The function reads `sheet`,
+    // writes within `answer`, `work` and `result`, and keeps no pointer.
+    let number = unsafe {
+        hofadiju_compare(
+            sheet.as_ptr(),
+            sheet.len(),
+            left,
+            right,
+            answer.as_mut_ptr(),
+            answer.len(),
+            work.as_mut_ptr(),
+            work.len(),
+            &mut result,
+        )
+    };
+    let [verdict, round, left, right, length, place] = result;
+    if number != 0 {
+        let reason = Reason::from_number(number).expect("the library returns a number of document 01");
+        return Err(Refusal { reason, place });
+    }
+    let verdict = if verdict == 0 { Verdict::Same } else { Verdict::Diff };
+    Ok(Outcome { verdict, round, left, right, length })
+}
+
+impl Outcome {
+    /// The report that stands in the first [`Outcome::length`] bytes of `answer`, or `None` where
+    /// those bytes are not a report.
+    pub fn report(&self, answer: &[u8]) -> Option<Report> {
+        report::from_bytes(self, answer.get(..self.length)?)
+    }
+}

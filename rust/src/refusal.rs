@@ -1,0 +1,139 @@
+//! Refusals: their numbers, reasons and texts.
+
+use std::fmt;
+
+/// Why a sheet, a choice of starts or a comparison is refused.
+///
+/// The discriminants are document 01's numbers.
+#[derive(Clone, Copy, Debug, PartialEq, Eq, Hash, PartialOrd, Ord)]
+#[repr(u32)]
+pub enum Reason {
+    /// A field is cut off by the end of the sheet.
+    CutOff = 1,
+    /// More than 12 facts.
+    TooManyFacts = 2,
+    /// A byte of a fact's name is outside 32 to 126.
+    BadNameByte = 3,
+    /// More than 32 rules.
+    TooManyRules = 4,
+    /// A set holds a fact that is not on the sheet.
+    AbsentFact = 5,
+    /// The premise of a rule is empty.
+    EmptyPremise = 6,
+    /// No node, or more than 64.
+    NodeCount = 7,
+    /// A kind byte above 4.
+    BadKind = 8,
+    /// A node number that is not allowed there.
+    BadNode = 9,
+    /// An unused field of a node is not 0.
+    UnusedField = 10,
+    /// Fewer than 2 starts, or more than 16.
+    StartCount = 11,
+    /// A start has more than eight threads, as written or once opened.
+    TooManyThreads = 12,
+    /// Bytes after the last start.
+    ExtraBytes = 13,
+    /// A chosen start is not on the sheet.
+    AbsentStart = 14,
+    /// A node opens to more than eight threads.
+    WideNode = 15,
+    /// More than 512 configurations, a configuration of more than eight threads, or more than 4,096
+    /// moves.
+    TooLarge = 21,
+    /// The answer slice is shorter than the report.
+    AnswerShort = 22,
+    /// The work slice is shorter than 16,384 numbers.
+    WorkShort = 23,
+}
+
+impl Reason {
+    /// All reasons, by number.
+    pub const ALL: [Reason; 18] = [
+        Reason::CutOff,
+        Reason::TooManyFacts,
+        Reason::BadNameByte,
+        Reason::TooManyRules,
+        Reason::AbsentFact,
+        Reason::EmptyPremise,
+        Reason::NodeCount,
+        Reason::BadKind,
+        Reason::BadNode,
+        Reason::UnusedField,
+        Reason::StartCount,
+        Reason::TooManyThreads,
+        Reason::ExtraBytes,
+        Reason::AbsentStart,
+        Reason::WideNode,
+        Reason::TooLarge,
+        Reason::AnswerShort,
+        Reason::WorkShort,
+    ];
+
+    /// The reason's number.
+    pub fn number(self) -> u32 {
+        self as u32
+    }
+
+    /// The reason with this number.
+    pub fn from_number(number: u32) -> Option<Reason> {
+        Reason::ALL.into_iter().find(|reason| reason.number() == number)
+    }
+}
+
+/// A refusal: why, and where.
+#[derive(Clone, Copy, Debug, PartialEq, Eq, Hash)]
+pub struct Refusal {
+    /// What is wrong.
+    pub reason: Reason,
+    /// Where it is wrong: for 1 to 13 and 15 the byte of the sheet; for 14 0 for the left start and 1
+    /// for the right one; for 22 the length that the report needs; for 21 and 23 0.
+    pub place: usize,
+}
+
+impl Refusal {
+    /// The refusal's number in document 01.
+    pub fn number(&self) -> u32 {
+        self.reason.number()
+    }
+
+    /// The line that the program prints, without its line feed: `REFUSED number place`.
+    pub fn line(&self) -> String {
+        format!("REFUSED {} {}", self.number(), self.place)
+    }
+}
+
+impl fmt::Display for Refusal {
+    fn fmt(&self, f: &mut fmt::Formatter<'_>) -> fmt::Result {
+        let place = self.place;
+        match self.reason {
+            Reason::CutOff => write!(f, "the sheet ends inside a field or before one: it has only {place} bytes"),
+            Reason::TooManyFacts => write!(f, "byte {place}: the count of facts is above 12"),
+            Reason::BadNameByte => write!(f, "byte {place}: a fact's name has a byte outside 32 to 126"),
+            Reason::TooManyRules => write!(f, "byte {place}: the count of rules is above 32"),
+            Reason::AbsentFact => write!(f, "byte {place}: the set holds a fact that is not on the sheet"),
+            Reason::EmptyPremise => write!(f, "byte {place}: the rule's premise is empty"),
+            Reason::NodeCount => write!(f, "byte {place}: the count of nodes is not 1 to 64"),
+            Reason::BadKind => write!(f, "byte {place}: the node's kind is above 4"),
+            Reason::BadNode => write!(f, "byte {place}: the node number is not allowed here"),
+            Reason::UnusedField => write!(f, "byte {place}: the node's kind does not use this field, and it is not 0"),
+            Reason::StartCount => write!(f, "byte {place}: the count of starts is not 2 to 16"),
+            Reason::TooManyThreads => {
+                write!(f, "byte {place}: the start has more than 8 threads, as written or once opened")
+            }
+            Reason::ExtraBytes => write!(f, "byte {place}: the sheet goes on after its last start"),
+            Reason::AbsentStart if place == 0 => write!(f, "the start chosen for the left is not on the sheet"),
+            Reason::AbsentStart => write!(f, "the start chosen for the right is not on the sheet"),
+            Reason::WideNode => write!(f, "byte {place}: the node opens to more than 8 threads"),
+            Reason::TooLarge => write!(
+                f,
+                "the comparison is too large: more than 512 configurations, more than 8 threads in one of them, \
+                 or more than 4096 moves in all"
+            ),
+            Reason::AnswerShort => write!(f, "the answer slice is too short: the report has {place} bytes"),
+            Reason::WorkShort => write!(f, "the work slice is shorter than 16384 numbers"),
+        }
+    }
+}
+
+impl std::error::Error for Refusal {}

@@ -1,0 +1,157 @@
+//! The crate's own functions: values, texts, and document 01's known sheets.
+
+use hofadiju::{compare, compare_into, Reason, Refusal, Report, Side, Verdict, ANSWER_BYTES, WORK_NUMBERS};
+use sheets::{alike_pair, Draft, Rng, ASK, BOTH, EITHER, SHAPES, STOP, TELL};
+use std::path::Path;
+
+/// Sheet K of document 01 with these two starts.
+fn sheet_k(left: (u16, &[u8]), right: (u16, &[u8])) -> Vec<u8> {
+    let nodes = vec![
+        (STOP, 0, 0),
+        (TELL, 0, 0),
+        (ASK, 1, 1),
+        (ASK, 2, 1),
+        (EITHER, 2, 3),
+        (TELL, 4, 0),
+        (ASK, 2, 5),
+        (EITHER, 2, 6),
+        (BOTH, 1, 1),
+    ];
+    let starts = vec![(left.0, left.1.to_vec()), (right.0, right.1.to_vec())];
+    Draft { facts: 3, rules: vec![(2, 1)], nodes, starts }.bytes()
+}
+
+fn report_k(left: (u16, &[u8]), right: (u16, &[u8])) -> Report {
+    compare(&sheet_k(left, right), 0, 1).expect("sheet K is not refused")
+}
+
+#[test]
+fn known_sheets() {
+    let report = report_k((0, &[2]), (0, &[4]));
+    assert_eq!((report.verdict, report.round), (Verdict::Same, 1));
+    assert_eq!((report.left, report.right), (0, 1));
+    assert_eq!(
+        report.to_string(),
+        "SAME 1\nCONFIGURATIONS 6\n0 0 0 2\n1 0 0 4\n2 1 1 -\n3 1 2 1\n4 3 3 -\n5 3 4 1\nTRAIL 0\n"
+    );
+
+    let report = report_k((0, &[2]), (0, &[3]));
+    assert_eq!((report.verdict, report.round), (Verdict::Diff, 1));
+
+    let report = report_k((0, &[2]), (0, &[7]));
+    assert_eq!((report.verdict, report.round, report.steps.len()), (Verdict::Diff, 2, 1));
+    let step = report.steps[0];
+    assert_eq!((step.side, step.label, step.reply), (Side::Right, 3, None));
+
+    let report = report_k((0, &[1]), (1, &[1]));
+    assert_eq!((report.verdict, report.round, report.steps.len()), (Verdict::Diff, 0, 0));
+
+    let report = report_k((0, &[]), (0, &[]));
+    assert_eq!((report.verdict, report.round), (Verdict::Same, 0));
+    assert_eq!(report.to_string(), "SAME 0\nCONFIGURATIONS 1\n0 0 0 -\nTRAIL 0\n");
+
+    let report = report_k((0, &[8]), (0, &[1]));
+    assert_eq!((report.verdict, report.round), (Verdict::Diff, 2));
+    assert_eq!(report.steps.iter().map(|step| step.side).collect::<Vec<_>>(), [Side::Left, Side::Left]);
+}
+
+#[test]
+fn an_ask_with_two_labels() {
+    // Sheet L: three facts, one rule, 3 gives 4; ask 4 at store 1 has labels 2 and 4.
+    let nodes = vec![(STOP, 0, 0), (ASK, 4, 0)];
+    let draft = Draft { facts: 3, rules: vec![(3, 4)], nodes, starts: vec![(1, vec![1]), (1, vec![])] };
+    let report = compare(&draft.bytes(), 0, 1).unwrap();
+    let stores: Vec<u16> = report.members.iter().map(|member| member.store).collect();
+    assert_eq!(stores, [1, 1, 5, 7]);
+}
+
+#[test]
+fn samples() {
+    let folder = Path::new(env!("CARGO_MANIFEST_DIR")).join("../samples");
+    let mut held = 0;
+    for entry in std::fs::read_dir(folder).unwrap() {
+        let path = entry.unwrap().path();
+        if path.extension().is_none_or(|ending| ending != "sheet") {
+            continue;
+        }
+        let printed = match compare(&std::fs::read(&path).unwrap(), 0, 1) {
+            Ok(report) => report.to_string(),
+            Err(refusal) => refusal.line() + "\n",
+        };
+        let expected = std::fs::read_to_string(path.with_extension("report")).unwrap();
+        assert_eq!(printed, expected, "{}", path.display());
+        held += 1;
+    }
+    assert!(held >= 4);
+}
+
+#[test]
+fn reasons_have_numbers_and_texts() {
+    for number in 0..100 {
+        let reason = Reason::from_number(number);
+        assert_eq!(reason.is_some(), matches!(number, 1..=15 | 21..=23));
+        let Some(reason) = reason else { continue };
+        let refusal = Refusal { reason, place: 1 };
+        assert_eq!(refusal.number(), number);
+        assert_eq!(refusal.line(), format!("REFUSED {number} 1"));
+        assert!(refusal.to_string().len() > 20);
+    }
+    let texts: std::collections::HashSet<String> =
+        Reason::ALL.iter().map(|&reason| Refusal { reason, place: 0 }.to_string()).collect();
+    assert_eq!(texts.len(), Reason::ALL.len());
+    let refusal = compare(&[], 0, 0).unwrap_err();
+    assert_eq!((refusal.reason, refusal.place), (Reason::CutOff, 0));
+    let error: Box<dyn std::error::Error> = Box::new(refusal);
+    assert!(error.to_string().contains("only 0 bytes"));
+}
+
+#[test]
+fn the_two_functions_agree() {
+    let mut rng = Rng::new(31);
+    let mut answer = vec![0xEE; ANSWER_BYTES];
+    let mut work = vec![0xEEEE; WORK_NUMBERS];
+    for i in 0..2_000 {
+        let bytes = alike_pair(&SHAPES[i % SHAPES.len()], &mut rng).bytes();
+        let outcome = compare_into(&bytes, 0, 1, &mut answer, &mut work);
+        match (compare(&bytes, 0, 1), outcome) {
+            (Ok(report), Ok(outcome)) => {
+                assert_eq!(outcome.report(&answer).as_ref(), Some(&report));
+                assert_eq!(outcome.report(&answer[..outcome.length - 1]), None);
+                let classes = report.members[report.left].class == report.members[report.right].class;
+                assert_eq!(classes, report.verdict == Verdict::Same);
+                let lines = 3 + report.members.len() + report.steps.len();
+                let text = report.to_string();
+                assert_eq!(text.lines().count(), lines);
+                assert!(text.ends_with('\n'));
+            }
+            (Err(refusal), Err(other)) => assert_eq!(refusal, other),
+            _ => panic!("one of the two is refused: {bytes:?}"),
+        }
+    }
+}
+
+#[test]
+fn short_slices() {
+    let bytes = sheet_k((0, &[2]), (0, &[4]));
+    let mut work = vec![7; WORK_NUMBERS];
+    let refusal = compare_into(&bytes, 0, 1, &mut [], &mut work).unwrap_err();
+    assert_eq!(refusal, Refusal { reason: Reason::AnswerShort, place: 38 });
+    assert!(work.iter().all(|&number| number == 0));
+    let refusal = compare_into(&bytes, 0, 1, &mut [], &mut []).unwrap_err();
+    assert_eq!(refusal, Refusal { reason: Reason::WorkShort, place: 0 });
+}
+
+#[test]
+fn threads_call_at_the_same_time() {
+    let sheet = sheet_k((0, &[2]), (0, &[7]));
+    let expected = compare(&sheet, 0, 1).unwrap();
+    std::thread::scope(|scope| {
+        for _ in 0..4 {
+            scope.spawn(|| {
+                for _ in 0..200 {
+                    assert_eq!(compare(&sheet, 0, 1).as_ref(), Ok(&expected));
+                }
+            });
+        }
+    });
+}
