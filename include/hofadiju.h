@@ -89,7 +89,7 @@ enum hofadiju_result {
  *
  * The work slice is room to work in; its contents matter to nothing. After a report and after 21 and 22
  * its first HOFADIJU_WORK_NUMBERS numbers are 0; every other refusal leaves it as it is. Later numbers
- * are never touched.
+ * are never touched. On the stack the call takes less than 64 KiB.
  */
 uint32_t hofadiju_compare(const uint8_t *sheet, size_t sheet_len, size_t left, size_t right,
                           uint8_t *answer, size_t answer_len, uint32_t *work, size_t work_len,

@@ -16,23 +16,25 @@ use Rattle.stores.specs.StoreLaws.{closure-smallest, closure-closed, closure-in
 use Rattle.closing.specs.Layout.{ruleIn, rulesIn}
 use Rattle.closures.specs.ClosureTable.{Closures, GrownBy}
 
+-- what is closed under rules is closed under the first of them
+pub closed-fewer : (sets : List ℕ) (n k c : ℕ) → k ≤ n → Closed (rulesIn sets n) c → Closed (rulesIn sets k) c
+closed-fewer sets n k c h closed =
+    record {
+      obeys = λ r m.
+          let i = tabulate-mem (ruleIn sets) k m in
+          let among = mem-tabulate (ruleIn sets) n (i .0) (omega (arith, i .1)) in
+          closed .obeys r (subst (λ (x : Rule). List·Memᴰ x (rulesIn sets n)) (sym (i .2)) among);
+    }
+
 -- what the first rules make of a set, where the set itself is all of it only where it is closed
 pub pass-grown : (sets : List ℕ) (n k s t : ℕ) → k ≤ n → t ≡ pass (rulesIn sets k) s → (t ≡ s → pass (rulesIn sets n) s ≡ s)
     → GrownBy (rulesIn sets n) s t
 pass-grown sets n k s t h e f =
     record {
       above = subst (Within s) (sym e) (pass-above (rulesIn sets k) s);
-      inside = λ c closed w. subst (λ (x : ℕ). Within x c) (sym e) (pass-least (rulesIn sets k) s c (fewer c closed) w);
+      inside = λ c closed w. subst (λ (x : ℕ). Within x c) (sym e) (pass-least (rulesIn sets k) s c (closed-fewer sets n k c h closed) w);
       same = λ q. pass-same (rulesIn sets n) s (f q);
     }
-  where
-    fewer : (c : ℕ) → Closed (rulesIn sets n) c → Closed (rulesIn sets k) c
-    fewer c closed =
-        record {
-          obeys = λ r m.
-              let i = tabulate-mem (ruleIn sets) k m in
-              closed .obeys r (subst (λ (x : Rule). List·Memᴰ x (rulesIn sets n)) (sym (i .2)) (mem-tabulate (ruleIn sets) n (i .0) (omega (arith, i .1))));
-        }
 
 module _ (rs : List Rule) where
   -- growing a set leaves its closure

@@ -1,2 +1,4 @@
 pub mod ClosureTable
 pub mod FillLaws
+pub mod Gathering
+pub mod GatherLaws

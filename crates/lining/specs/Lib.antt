@@ -6,4 +6,5 @@ pub mod Looking
 pub mod Forgetting
 pub mod LinedMembers
 pub mod SettledMoves
+pub mod Watching
 pub mod LinedSets

@@ -26,9 +26,10 @@ use Rattle.work_places.specs.WorkPlaces.{movesAt}
 use Rattle.held_set.specs.HeldSet.{memberAt, firstMove, moveTotal}
 use Rattle.comparison.specs.Rounds.{redundant}
 use Rattle.splitting.specs.MemberLines.{packedLine, lineOf, linesOf, lines-ascend, line-in, line-only}
-use Rattle.splitting.specs.HeldRounds.{dominatorsAt, lineTotalsAt, linesAt, classIn}
+use Rattle.splitting.specs.HeldRounds.{dominatorsAt, lineTotalsAt, classesAt, linesAt, classIn}
 use Rattle.lining.specs.KeptMoves.{noMove, moveOf, MoveKept, RoundHeld, MemberHeld, span-count, span-line}
-use Rattle.lining.specs.Shapes.{KeptFits, SpanFits, SpanOnly, only-none, only-then, MemberOnly, span-lined, lined-member, lined-fits}
+use Rattle.lining.specs.Shapes.{KeptFits, Stands, stands-same, SpanFits, SpanOnly, only-none, only-then, MemberOnly, LinedOnly}
+use Rattle.lining.specs.Shapes.{span-lined, lined-class, lined-member, lined-fits}
 use Rattle.lining.specs.Looking.{Judged}
 
 -- how many lines the member at place i has
@@ -136,6 +137,7 @@ pub record LineMoved (w : List ℕ) (n first total j end : ℕ) (v : List ℕ) (
   pub only : SpanOnly first total w v
   pub others : (t : ℕ) → (t ≡ j → ⊥) → t < total → getD v (dominatorsAt + first + t) 0 ≡ getD w (dominatorsAt + first + t) 0
   pub fits : KeptFits (getD v (dominatorsAt + first + j) 0)
+  pub stands : Stands v first j
   pub lines : (sheet : Sheet) (set : List Configuration) (numbers : List ℕ) (p : Configuration) (m rd i : ℕ)
       → MemberHeld sheet set numbers p w n m rd i first total
       → MoveKept sheet set numbers p j (getD w (dominatorsAt + first + j) 0)
@@ -178,6 +180,14 @@ module _ (w : List ℕ) (n first total j end : ℕ) (fit : SpanFits w n first to
   pub judged-ascends : Ascends numberOrder (numbersIn w (linesAt + first) end) → Ascends numberOrder (numbersIn u (linesAt + first) end)
   judged-ascends a = subst (Ascends numberOrder) (sym judged-lines) a
 
+  -- the moves can be read as before
+  pub judged-fits : SpanFits u n first total
+  judged-fits = lined-fits (span-lined (fit .span) (judged-only J total jt (fit .span))) fit (λ t l. go t l (tested (eqb t j)))
+    where
+      go : (t : ℕ) → t < total → Tested (eqb t j) → KeptFits (getD u (dominatorsAt + first + t) 0)
+      go t l (passes z) = subst (λ (k : ℕ). KeptFits (getD u (dominatorsAt + first + k) 0)) (sym (eqb-true t j z)) (J .fits)
+      go t l (fails z) = subst KeptFits (sym (judged-others t (eqb-false t j z) l)) (fit .kept t l)
+
   -- a redundant move
   pub moved-none : b ≡ false → Ascends numberOrder (numbersIn w (linesAt + first) end) → LineMoved w n first total j end u end
   moved-none f a = record {
@@ -186,6 +196,7 @@ module _ (w : List ℕ) (n first total j end : ℕ) (fit : SpanFits w n first to
     only = judged-only J total jt (fit .span);
     others = judged-others;
     fits = J .fits;
+    stands = J .stands;
     lines = λ sheet set numbers p m rd i M K L.
         let x = J .judges sheet set numbers p m rd i total M jt K in (
           x .0,
@@ -209,6 +220,9 @@ module _ (w : List ℕ) (n first total j end : ℕ) (fit : SpanFits w n first to
     });
     others = λ t d l. low t l ∙ judged-others t d l;
     fits = subst KeptFits (sym (low j jt)) (J .fits);
+    stands = stands-same u v first j (low j jt)
+        (ap (λ (x : ℕ). x % 65536) (E .outside .at (movesAt + first + j) (inl (omega (arith, fit .span)))))
+        (λ i h. E .outside .at (classesAt + i) (inl (omega arith))) (omega (arith, judged-fits .targets j jt, judged-fits .few)) (J .fits) (J .stands);
     lines = λ sheet set numbers p m rd i M K L.
         let x = J .judges sheet set numbers p m rd i total M jt K in
         let N = lined-member (span-lined (fit .span) (judged-only J total jt (fit .span))) M in (
@@ -236,14 +250,6 @@ module _ (w : List ℕ) (n first total j end : ℕ) (fit : SpanFits w n first to
       subst (PutIs u (linesAt + first) end (linesAt + first + total) line v) is E in
       omega (arith, x .full, ends)
 
-  -- the moves can be read as before
-  pub judged-fits : SpanFits u n first total
-  judged-fits = lined-fits (span-lined (fit .span) (judged-only J total jt (fit .span))) fit (λ t l. go t l (tested (eqb t j)))
-    where
-      go : (t : ℕ) → t < total → Tested (eqb t j) → KeptFits (getD u (dominatorsAt + first + t) 0)
-      go t l (passes z) = subst (λ (k : ℕ). KeptFits (getD u (dominatorsAt + first + k) 0)) (sym (eqb-true t j z)) (J .fits)
-      go t l (fails z) = subst KeptFits (sym (judged-others t (eqb-false t j z) l)) (fit .kept t l)
-
 -- ---- all moves of a member
 -- the moves before place j are done
 pub record LiningMember (w : List ℕ) (n first total : ℕ) (v : List ℕ) (end j : ℕ) : Type 0 where
@@ -252,6 +258,7 @@ pub record LiningMember (w : List ℕ) (n first total : ℕ) (v : List ℕ) (end
   pub only : SpanOnly first total w v
   pub later : (t : ℕ) → j ≤ t → t < total → getD v (dominatorsAt + first + t) 0 ≡ getD w (dominatorsAt + first + t) 0
   pub fits : (t : ℕ) → t < total → KeptFits (getD v (dominatorsAt + first + t) 0)
+  pub stands : (t : ℕ) → t < j → Stands v first t
   pub lines : (sheet : Sheet) (set : List Configuration) (numbers : List ℕ) (p : Configuration) (m rd i : ℕ)
       → MemberHeld sheet set numbers p w n m rd i first total
       → ((t : ℕ) → t < total → MoveKept sheet set numbers p t (getD w (dominatorsAt + first + t) 0))
@@ -266,6 +273,7 @@ module _ (w : List ℕ) (n first total : ℕ) (fit : SpanFits w n first total) w
     only = only-none first total w;
     later = λ t h l. refl;
     fits = fit .kept;
+    stands = λ t h. absurd (omega arith);
     lines = λ sheet set numbers p m rd i M K. (
       (λ t h. absurd (omega arith)),
       so-far-none sheet set numbers p (numbersIn w (linesAt + first) (linesAt + first)) (numbers-none w (linesAt + first))
@@ -284,6 +292,7 @@ module _ (w : List ℕ) (n first total : ℕ) (fit : SpanFits w n first total) w
     only = only-then (L .only) (E .only);
     later = λ t a l. E .others t (λ e. omega arith) l ∙ L .later t (omega arith) l;
     fits = λ t l. fits t l (tested (eqb t j));
+    stands = λ t l. stands t l (tested (eqb t j));
     lines = λ sheet set numbers p m rd i M K.
         let x = L .lines sheet set numbers p m rd i M K in
         let y = E .lines sheet set numbers p m rd i (lined-member (span-lined (fit .span) (L .only)) M)
@@ -294,6 +303,16 @@ module _ (w : List ℕ) (n first total : ℕ) (fit : SpanFits w n first total) w
       fits : (t : ℕ) → t < total → Tested (eqb t j) → KeptFits (getD u (dominatorsAt + first + t) 0)
       fits t l (passes z) = subst (λ (k : ℕ). KeptFits (getD u (dominatorsAt + first + k) 0)) (sym (eqb-true t j z)) (E .fits)
       fits t l (fails z) = subst KeptFits (sym (E .others t (eqb-false t j z) l)) (L .fits t l)
+
+      stands : (t : ℕ) → t < j + 1 → Tested (eqb t j) → Stands u first t
+      stands t l (passes z) = subst (Stands u first) (sym (eqb-true t j z)) (E .stands)
+      stands t l (fails z) =
+          let d : t ≡ j → ⊥ = eqb-false t j z in
+          let o : LinedOnly v u = span-lined (fit .span) (E .only) in
+          stands-same v u first t (E .others t d (omega arith))
+          (ap (λ (x : ℕ). x % 65536) (o .at-set (movesAt + first + t) (omega arith) (omega (arith, fit .span))))
+          (λ i h. lined-class o i h)
+          (omega (arith, lining-fits v end j L .targets t (omega arith), fit .few)) (L .fits t (omega arith)) (L .stands t (omega arith))
 
       kept : (sheet : Sheet) (set : List Configuration) (numbers : List ℕ) (p : Configuration)
           → ((t : ℕ) → t < j → MoveKept sheet set numbers p t (getD v (dominatorsAt + first + t) 0))
@@ -310,6 +329,7 @@ pub record MemberDone (w : List ℕ) (n i : ℕ) (v : List ℕ) : Type 0 where
   pub only : MemberOnly i (firstMove w i) (moveTotal w i) w v
   pub fits : (j : ℕ) → j < moveTotal w i → KeptFits (getD v (dominatorsAt + firstMove w i + j) 0)
   pub few : lineTotal v i ≤ moveTotal w i
+  pub stands : (j : ℕ) → j < moveTotal w i → Stands v (firstMove w i) j
   pub lines : (sheet : Sheet) (set : List Configuration) (numbers : List ℕ) (m rd : ℕ) → RoundHeld sheet set numbers w n m rd
       → ((j : ℕ) → j < moveTotal w i → MoveKept sheet set numbers (memberAt w i) j (getD w (dominatorsAt + firstMove w i + j) 0))
       → ((j : ℕ) → j < moveTotal w i → MoveKept sheet set numbers (memberAt w i) j (getD v (dominatorsAt + firstMove w i + j) 0))
@@ -328,6 +348,11 @@ counted w n i l fit v end x L e = record {
   };
   fits = λ j h. subst KeptFits (sym (kept-same j h)) (L .fits j h);
   few = omega (arith, total-is, L .ends);
+  stands = λ j h.
+      stands-same v (set v (lineTotalsAt + i) x) (firstMove w i) j (kept-same j h)
+      (ap (λ (z : ℕ). z % 65536) (getD-set-other v (lineTotalsAt + i) (movesAt + firstMove w i + j) x 0 (λ z. omega (arith, fit .span))))
+      (λ k b. getD-set-other v (lineTotalsAt + i) (classesAt + k) x 0 (λ z. omega (arith, fit .few)))
+      (omega (arith, lined-fits (span-lined (fit .span) (L .only)) fit (L .fits) .targets j h, fit .few)) (L .fits j h) (L .stands j h);
   lines = λ sheet set numbers m rd R K.
       let M : MemberHeld sheet set numbers (memberAt w i) w n m rd i (firstMove w i) (moveTotal w i) =
       record { round = R; inside = l; member-is = refl; first-is = refl; total-is = refl } in

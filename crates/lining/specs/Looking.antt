@@ -7,7 +7,7 @@ use Prim.Native.Nat.{ℕ, _+_, _*_, _/_, _%_, _≤_, _<_}
 use native.Mathlib.Numerals.{add-one}
 use native.Mathlib.Omega.{arith}
 use lib.ListN.{length, getD, set}
-use lib.Seq.{getD-set-same}
+use lib.Seq.{getD-set-same, getD-set-other}
 use lib.Dec.{eqb}
 use borrow.Author.Tests.{eqb-true, eqb-false, eq-eqb, ne-eqb}
 use Rattle.lists.specs.Tests.{and-left, and-right, Tested, tested, passes, fails}
@@ -20,11 +20,11 @@ use Rattle.work_places.specs.WorkPlaces.{movesAt}
 use Rattle.held_set.specs.HeldSet.{memberAt}
 use Rattle.comparison.specs.Rounds.{redundant}
 use Rattle.splitting.specs.DominatingMoves.{dominates, Passed, passed-one, passed-own, kept-redundant}
-use Rattle.splitting.specs.HeldRounds.{dominatorsAt, classIn}
+use Rattle.splitting.specs.HeldRounds.{dominatorsAt, classesAt, classIn}
 use Rattle.lining.specs.FoundMembers.{LiftedAt}
 use Rattle.lining.specs.KeptMoves.{noMove, moveOf, Shows, MoveKept, MemberHeld, span-count, shows-dominates, lifted-shows}
 use Rattle.lining.specs.KeptMoves.{not-below-passed}
-use Rattle.lining.specs.Shapes.{KeptFits}
+use Rattle.lining.specs.Shapes.{KeptFits, keptAt, targetAt, Stands}
 
 -- move x comes below move y: a label strictly below, and a target whose store is inside
 abbrev pub comesBelow : List ℕ → ℕ → ℕ → Bool
@@ -48,6 +48,7 @@ pub record Looked (sheet : Sheet) (set : List Configuration) (numbers : List ℕ
 -- that it was looked for from place k on
 pub record LookedFrom (w : List ℕ) (n first j k kept : ℕ) : Type 0 where
   pub fits : KeptFits kept
+  pub settles : (kept ≡ j * 65536 + 65535) ⊎ ((kept % 65536 ≡ 65535 → ⊥) × (classIn w (kept % 65536) ≡ classIn w (targetAt w first j)))
   pub finds : (sheet : Sheet) (set : List Configuration) (numbers : List ℕ) (p : Configuration) (m r i total : ℕ)
       → MemberHeld sheet set numbers p w n m r i first total → j < total → k ≤ j
       → Passed sheet set numbers (moves sheet p) (moveOf sheet p j) k → Looked sheet set numbers p w first j kept
@@ -63,6 +64,7 @@ pub record Passing (w : List ℕ) (n first j k at : ℕ) : Type 0 where
 pub record Judged (w : List ℕ) (n first j : ℕ) (v : List ℕ) (b : Bool) : Type 0 where
   pub outside : SameOutside (dominatorsAt + first + j) (dominatorsAt + first + j + 1) w v
   pub fits : KeptFits (getD v (dominatorsAt + first + j) 0)
+  pub stands : Stands v first j
   pub judges : (sheet : Sheet) (set : List Configuration) (numbers : List ℕ) (p : Configuration) (m r i total : ℕ)
       → MemberHeld sheet set numbers p w n m r i first total → j < total
       → MoveKept sheet set numbers p j (getD w (dominatorsAt + first + j) 0)
@@ -112,7 +114,11 @@ module _ (w : List ℕ) (n first j k : ℕ) where
       let l : d ≤ n = D .fits e in
       let q : (at * 65536 + d) % 65536 ≡ d = omega arith in
       let a : (at * 65536 + d) / 65536 ≡ at = omega arith in
-      record { fits = λ z. omega arith; finds = go q a }
+      record {
+        fits = λ z. omega arith;
+        settles = inr ((λ z. e (omega arith)), ap (classIn w) q ∙ D .some e .2);
+        finds = go q a;
+      }
     where
       go : (at * 65536 + d) % 65536 ≡ d → (at * 65536 + d) / 65536 ≡ at
           → (sheet : Sheet) (set : List Configuration) (numbers : List ℕ) (p : Configuration) (m r i total : ℕ)
@@ -141,7 +147,7 @@ module _ (w : List ℕ) (n first j k : ℕ) where
   looked-none at h P =
       let q : (j * 65536 + 65535) % 65536 ≡ 65535 = omega arith in
       let a : (j * 65536 + 65535) / 65536 ≡ j = omega arith in
-      record { fits = λ z. absurd (z q); finds = go q a }
+      record { fits = λ z. absurd (z q); settles = inl refl; finds = go q a }
     where
       go : (j * 65536 + 65535) % 65536 ≡ 65535 → (j * 65536 + 65535) / 65536 ≡ j
           → (sheet : Sheet) (set : List Configuration) (numbers : List ℕ) (p : Configuration) (m r i total : ℕ)
@@ -159,6 +165,10 @@ module _ (w : List ℕ) (n first j k : ℕ) where
             last = λ z. a;
             one-class = λ z. absurd (z q);
           }
+
+some : (b : Bool) → b ≡ true → not b ≡ true → ⊥
+some true e f = let z : _≡_ {A = ℕ} 0 1 = cc in omega arith
+some false e f = let z : _≡_ {A = ℕ} 0 1 = cc in omega arith
 
 -- ---- judging
 module _ (w : List ℕ) (n first j kept : ℕ) (t : ℕ) (is : kept ≡ getD w (dominatorsAt + first + j) 0)
@@ -224,6 +234,14 @@ module _ (w : List ℕ) (n first j kept : ℕ) (t : ℕ) (is : kept ≡ getD w (
   judged-still f = record {
     outside = outside-same (dominatorsAt + first + j) (dominatorsAt + first + j + 1) w;
     fits = subst KeptFits is fits;
+    stands = inr (
+      (λ z. some (eqb (kept % 65536) 65535) (eq-eqb (kept % 65536) 65535 (ap (λ (x : ℕ). x % 65536) is ∙ z))
+          (and-left (not (eqb (kept % 65536) 65535)) (eqb (classIn w (kept % 65536)) (classIn w t)) (sym still ∙ f))),
+      ap (λ (x : ℕ). classIn w (x % 65536)) (sym is)
+          ∙ eqb-true (classIn w (kept % 65536)) (classIn w t)
+          (and-right (not (eqb (kept % 65536) 65535)) (eqb (classIn w (kept % 65536)) (classIn w t)) (sym still ∙ f))
+          ∙ ap (classIn w) target,
+    );
     judges = λ sheet set numbers p m r i total M jt K. (K, by sheet set numbers p m r i total M jt K);
   }
     where
@@ -238,28 +256,44 @@ module _ (w : List ℕ) (n first j kept : ℕ) (t : ℕ) (is : kept ≡ getD w (
           (and-left (not (eqb (kept % 65536) 65535)) (eqb (classIn w (kept % 65536)) (classIn w t)) b))
           (eqb-true (classIn w (kept % 65536)) (classIn w t)
           (and-right (not (eqb (kept % 65536) 65535)) (eqb (classIn w (kept % 65536)) (classIn w t)) b) ∙ ap (classIn w) target)
-        where
-          some : (b : Bool) → b ≡ true → not b ≡ true → ⊥
-          some true e f = let z : _≡_ {A = ℕ} 0 1 = cc in omega arith
-          some false e f = let z : _≡_ {A = ℕ} 0 1 = cc in omega arith
 
   -- another one is looked for
   pub judged-next : s ≡ false → (from next : ℕ)
       → ((kept % 65536 ≡ 65535 → from ≡ kept / 65536) × ((kept % 65536 ≡ 65535 → ⊥) → from ≡ kept / 65536 + 1))
-      → LookedFrom w n first j from next → dominatorsAt + first + j < length w
+      → LookedFrom w n first j from next → dominatorsAt + first + j < length w → first + j < 4096
       → Judged w n first j (set w (dominatorsAt + first + j) next) (eqb (next % 65536) 65535)
-  judged-next f from next l L h =
+  judged-next f from next l L h span =
       let e : getD (set w (dominatorsAt + first + j) next) (dominatorsAt + first + j) 0 ≡ next =
       getD-set-same w (dominatorsAt + first + j) next 0 h in
       record {
         outside = outside-set (dominatorsAt + first + j) (dominatorsAt + first + j + 1) w (dominatorsAt + first + j) next
             (omega arith) (omega arith);
         fits = subst KeptFits (sym e) (L .fits);
+        stands = stands e (L .settles);
         judges = λ sheet set numbers p m r i total M jt K.
             let x = looks-passed M jt from f (subst (MoveKept sheet set numbers p j) (sym is) K) l in
             let y = L .finds sheet set numbers p m r i total M jt (x .0) (x .1) in
             (subst (MoveKept sheet set numbers p j) (sym e) (y .good), found-judges M jt next y);
       }
+    where
+      u : List ℕ
+      u = set w (dominatorsAt + first + j) next
+
+      class : (i : ℕ) → classIn u i ≡ classIn w i
+      class i = getD-set-other w (dominatorsAt + first + j) (classesAt + i) next 0 (λ z. omega arith)
+
+      goal : targetAt u first j ≡ targetAt w first j
+      goal = ap (λ (x : ℕ). x % 65536) (getD-set-other w (dominatorsAt + first + j) (movesAt + first + j) next 0 (λ z. omega arith))
+
+      stands : keptAt u first j ≡ next
+          → (next ≡ j * 65536 + 65535) ⊎ ((next % 65536 ≡ 65535 → ⊥) × (classIn w (next % 65536) ≡ classIn w (targetAt w first j)))
+          → Stands u first j
+      stands e (inl x) = inl (e ∙ x)
+      stands e (inr x) =
+          inr (
+            (λ z. x .0 (omega arith)),
+            ap (λ (y : ℕ). classIn u (y % 65536)) e ∙ class (next % 65536) ∙ x .1 ∙ sym (ap (classIn u) goal ∙ class (targetAt w first j)),
+          )
 
 -- ---- one move beside another
 module _ (w : List ℕ) (n x y : ℕ) where

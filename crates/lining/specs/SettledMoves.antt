@@ -2,37 +2,29 @@
 -- class was not born since, or still dominated by the move that is kept for it.
 use mathlib.Core.Path.{_≡_, sym, ap, _∙_, subst}
 use mathlib.Core.Logic.{_⊎_, inl, inr}
-use mathlib.Core.Bool.{Bool, true, false, not, _&&_}
+use mathlib.Core.Bool.{true, false, not}
 use mathlib.Core.List.{List, List·Memᴰ}
-use Prim.Native.Nat.{ℕ, _+_, _*_, _/_, _%_, _≤_, _<_}
+use Prim.Native.Nat.{ℕ, _+_, _*_, _/_, _%_, _<_}
 use native.Mathlib.Omega.{arith}
-use lib.ListN.{length, getD}
-use lib.Dec.{eqb, ltb}
-use borrow.Author.Tests.{eqb-true, eqb-false, eq-eqb, ltb-true}
-use Rattle.lists.specs.Tests.{true-false, not-back, and-left, and-right, and-intro, Tested, tested, passes, fails}
+use lib.ListN.{getD}
+use borrow.Author.Tests.{eq-eqb}
+use Rattle.lists.specs.Tests.{true-false, and-left, and-right, and-intro}
 use Rattle.lists.specs.Places.{getD-any, getD-in}
 use Rattle.stores.specs.Stores.{strictlyBelow}
 use Rattle.sheets.specs.Sheet.{Configuration, Sheet}
 use Rattle.moves.specs.Orders.{Move}
 use Rattle.moves.specs.Moves.{moves, add}
-use Rattle.work_places.specs.WorkPlaces.{movesAt, workEnd}
-use Rattle.held_set.specs.HeldSet.{memberAt, firstMove, moveTotal}
+use Rattle.work_places.specs.WorkPlaces.{movesAt}
+use Rattle.held_set.specs.HeldSet.{memberAt}
 use Rattle.comparison.specs.Classes.{classOf, share}
 use Rattle.comparison.specs.Rounds.{redundant}
 use Rattle.splitting.specs.DominatingMoves.{dominates, Passed, passed-own, kept-redundant}
 use Rattle.splitting.specs.MemberLines.{packedLine, lineOf, linesOf}
-use Rattle.splitting.specs.HeldRounds.{dominatorsAt, classIn, held-place}
+use Rattle.splitting.specs.HeldRounds.{classIn, held-place}
 use Rattle.lining.specs.KeptMoves.{noMove, moveOf, MoveKept, MemberHeld, span-count, span-in, span-move, span-target}
 use Rattle.lining.specs.KeptMoves.{span-line, shows-dominates}
-use Rattle.lining.specs.Shapes.{KeptFits, SpanFits}
+use Rattle.lining.specs.Shapes.{keptAt, targetAt, Stands}
 use Rattle.lining.specs.LinedMembers.{LinesSoFar, so-far-lines, so-far-all}
-
--- the number that is kept for the move at place j, and the place of its target
-abbrev pub keptAt : List ℕ → ℕ → ℕ → ℕ
-keptAt w first j = getD w (dominatorsAt + first + j) 0
-
-abbrev pub targetAt : List ℕ → ℕ → ℕ → ℕ
-targetAt w first j = getD w (movesAt + first + j) 0 % 65536
 
 -- the move at place j has the line it had when there were `old` classes, or none as it had none
 abbrev pub Settled : List ℕ → ℕ → ℕ → ℕ → Type 0
@@ -40,57 +32,24 @@ Settled w first j old =
     ((keptAt w first j ≡ j * 65536 + 65535) × (classIn w (targetAt w first j) < old))
     ⊎ ((keptAt w first j % 65536 ≡ 65535 → ⊥) × (classIn w (keptAt w first j % 65536) ≡ classIn w (targetAt w first j)))
 
--- all dominating moves failed, and the class of the target has kept its number
-pub settled-none : (w : List ℕ) (first j old c : ℕ) → keptAt w first j ≡ j * 65536 + 65535 → c ≡ classIn w (targetAt w first j)
-    → ltb c old ≡ true → Settled w first j old
-settled-none w first j old c e d t = inl (e, omega (arith, ltb-true c old t))
-
--- the kept one still dominates
-pub settled-still : (w : List ℕ) (first j old : ℕ) (s : Bool)
-    → s ≡ (not (eqb (keptAt w first j % 65536) 65535) && eqb (classIn w (keptAt w first j % 65536)) (classIn w (targetAt w first j)))
-    → s ≡ true → Settled w first j old
-settled-still w first j old s e t =
-    let a : Bool = not (eqb (keptAt w first j % 65536) 65535) in
-    let b : Bool = eqb (classIn w (keptAt w first j % 65536)) (classIn w (targetAt w first j)) in
-    let y : (a && b) ≡ true = sym e ∙ t in
+-- a move that stood in v, where neither the class of its target nor that of the kept member was born since, is settled
+pub stood-settled : (v w : List ℕ) (n first j old : ℕ) → keptAt w first j ≡ keptAt v first j → targetAt w first j ≡ targetAt v first j
+    → targetAt w first j < n → ((keptAt w first j % 65536 ≡ 65535 → ⊥) → keptAt w first j % 65536 < n)
+    → classIn w (targetAt w first j) < old → (keptAt w first j % 65536 < n → classIn w (keptAt w first j % 65536) < old)
+    → ((i : ℕ) → i < n → classIn w i < old → classIn w i ≡ classIn v i) → Stands v first j → Settled w first j old
+stood-settled v w n first j old ek et lt lk t q c (inl x) = inl (ek ∙ x, t)
+stood-settled v w n first j old ek et lt lk t q c (inr x) =
+    let e : keptAt w first j % 65536 ≡ keptAt v first j % 65536 = ap (λ (z : ℕ). z % 65536) ek in
+    let d : keptAt w first j % 65536 ≡ 65535 → ⊥ = λ (z : keptAt w first j % 65536 ≡ 65535). x .0 (omega arith) in
     inr (
-      (λ z. true-false (eqb (keptAt w first j % 65536) 65535) (eq-eqb (keptAt w first j % 65536) 65535 z)
-          (not-back (eqb (keptAt w first j % 65536) 65535) (and-left a b y))),
-      eqb-true (classIn w (keptAt w first j % 65536)) (classIn w (targetAt w first j)) (and-right a b y),
+      d,
+      c (keptAt w first j % 65536) (lk d) (q (lk d)) ∙ ap (classIn v) e ∙ x .1 ∙ sym (c (targetAt w first j) lt t ∙ ap (classIn v) et),
     )
 
--- so has every move of the member at place i
-pub record Unchanged (w : List ℕ) (i old : ℕ) : Type 0 where
-  pub later : 0 < old
-  pub settled : (j : ℕ) → j < moveTotal w i → Settled w (firstMove w i) j old
-
--- what is needed to look at the move at place k
-pub settled-fits : (w : List ℕ) (n i first total k : ℕ) → SpanFits w n (firstMove w i) (moveTotal w i)
-    → first ≡ firstMove w i → total ≡ moveTotal w i → k < total
-    → (first + k < 4096) × KeptFits (keptAt w first k) × (targetAt w first k ≤ 512) × (workEnd ≤ length w)
-settled-fits w n i first total k S ef et l =
-    let b : k < moveTotal w i = omega arith in (
-      omega (arith, S .span),
-      subst (λ (a : ℕ). KeptFits (keptAt w a k)) (sym ef) (S .kept k b),
-      subst (λ (a : ℕ). targetAt w a k ≤ 512) (sym ef) (omega (arith, S .targets k b, S .few)),
-      S .long,
-    )
-
--- the one at place k is settled too
-pub settled-more : (w : List ℕ) (first old k : ℕ) → ((j : ℕ) → j < k → Settled w first j old) → Settled w first k old
-    → (j : ℕ) → j < k + 1 → Settled w first j old
-settled-more w first old k f s j l = go (tested (eqb j k))
-  where
-    go : Tested (eqb j k) → Settled w first j old
-    go (passes e) = subst (λ (i : ℕ). Settled w first i old) (sym (eqb-true j k e)) s
-    go (fails e) = f j (omega (arith, eqb-false j k e))
-
-pub settled-all : (w : List ℕ) (i old first total k : ℕ) → first ≡ firstMove w i → total ≡ moveTotal w i → total ≤ k → 0 < old
-    → ((j : ℕ) → j < k → Settled w first j old) → Unchanged w i old
-settled-all w i old first total k ef et h l f = record {
-  later = l;
-  settled = λ j b. subst (λ (a : ℕ). Settled w a j old) ef (f j (omega arith));
-}
+-- a settled move stands
+pub settled-stands : (w : List ℕ) (first j old : ℕ) → Settled w first j old → Stands w first j
+settled-stands w first j old (inl x) = inl (x .0)
+settled-stands w first j old (inr x) = inr x
 
 -- `numbers` came from `before` by splitting: classes below `old` kept their numbers
 pub record SplitFrom (set : List Configuration) (before numbers w : List ℕ) (n old : ℕ) : Type 0 where

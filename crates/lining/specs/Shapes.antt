@@ -1,8 +1,9 @@
 -- What the work slice has to be like for its members, moves, kept moves and classes to be read, and what is left alone by code
 -- that stores kept moves and lines.
-use mathlib.Core.Path.{_≡_, refl, ap, _∙_}
+use mathlib.Core.Path.{_≡_, refl, sym, ap, _∙_}
+use mathlib.Core.Logic.{_⊎_, inl, inr}
 use mathlib.Core.List.{List}
-use Prim.Native.Nat.{ℕ, _+_, _/_, _%_, _≤_, _<_}
+use Prim.Native.Nat.{ℕ, _+_, _*_, _/_, _%_, _≤_, _<_}
 use native.Mathlib.Omega.{arith}
 use lib.ListN.{length, getD}
 use Rattle.lists.specs.Tables.{tabulate-same}
@@ -16,6 +17,31 @@ use Rattle.lining.specs.KeptMoves.{DominatorsKept, RoundHeld, MemberHeld
 -- a kept number has a place of the slice's classes in its lower half, or what stands for none
 abbrev pub KeptFits : ℕ → Type 0
 KeptFits kept = (kept % 65536 ≡ 65535 → ⊥) → kept % 65536 ≤ 512
+
+-- the number that is kept for the move at place j, and the place of its target
+abbrev pub keptAt : List ℕ → ℕ → ℕ → ℕ
+keptAt w first j = getD w (dominatorsAt + first + j) 0
+
+abbrev pub targetAt : List ℕ → ℕ → ℕ → ℕ
+targetAt w first j = getD w (movesAt + first + j) 0 % 65536
+
+-- the move at place j was judged in the present classes: no move dominates it, or the kept one does
+abbrev pub Stands : List ℕ → ℕ → ℕ → Type 0
+Stands w first j =
+    (keptAt w first j ≡ j * 65536 + 65535)
+    ⊎ ((keptAt w first j % 65536 ≡ 65535 → ⊥) × (classIn w (keptAt w first j % 65536) ≡ classIn w (targetAt w first j)))
+
+-- it stands so where neither it nor the classes change
+pub stands-same : (v w : List ℕ) (first j : ℕ) → keptAt w first j ≡ keptAt v first j → targetAt w first j ≡ targetAt v first j
+    → ((i : ℕ) → i ≤ 512 → classIn w i ≡ classIn v i) → targetAt v first j ≤ 512 → KeptFits (keptAt v first j) → Stands v first j
+    → Stands w first j
+stands-same v w first j ek et c lt lk (inl x) = inl (ek ∙ x)
+stands-same v w first j ek et c lt lk (inr x) =
+    let q : keptAt w first j % 65536 ≡ keptAt v first j % 65536 = ap (λ (z : ℕ). z % 65536) ek in
+    inr (
+      (λ z. x .0 (omega arith)),
+      ap (classIn w) q ∙ c (keptAt v first j % 65536) (lk (x .0)) ∙ x .1 ∙ sym (ap (classIn w) et ∙ c (targetAt v first j) lt),
+    )
 
 -- what reading the `total` moves from `first` on needs
 pub record SpanFits (w : List ℕ) (n first total : ℕ) : Type 0 where

@@ -6,9 +6,9 @@ use work_places::MEMBERS;
 use work_places::MOVES;
 use work_places::SPANS;
 ghost use mathlib.Core.Path.{_≡_};
-ghost use mathlib.Core.Bool.{true, _&&_, not};
-ghost use Prim.Native.Nat.{ℕ, _+_, _/_, _%_, _≤_, _<_};
-ghost use lib.ListN.{length};
+ghost use mathlib.Core.Bool.{_&&_, not};
+ghost use Prim.Native.Nat.{ℕ, _+_, _*_, _/_, _%_, _≤_, _<_};
+ghost use lib.ListN.{length, getD};
 ghost use lib.Dec.{eqb};
 ghost use Rattle.stores.specs.Stores.{strictlyBelow, includes};
 ghost use Rattle.work_places.specs.WorkPlaces.{workEnd};
@@ -18,12 +18,12 @@ ghost use Rattle.number_lists.specs.NumberLists.{numberOrder, numbersIn};
 ghost use Rattle.splitting.specs.HeldRounds.{classIn, linesAt};
 ghost use Rattle.splitting.specs.MemberLines.{packedLine};
 ghost use Rattle.lining.specs.FoundMembers.{numbersAt, FoundAt, LiftedAt};
-ghost use Rattle.lining.specs.Shapes.{KeptFits, SpanFits, Shape};
+ghost use Rattle.lining.specs.Shapes.{KeptFits, targetAt, SpanFits, Shape};
 ghost use Rattle.lining.specs.Looking.{DominatedBy, LookedFrom, Judged};
 ghost use Rattle.lining.specs.Forgetting.{Forgotten};
 ghost use Rattle.lining.specs.LinedMembers.{LineMoved, MemberDone};
-ghost use Rattle.lining.specs.SettledMoves.{keptAt, targetAt, Settled, Unchanged};
-ghost use Rattle.lining.specs.LinedSets.{Renewed, SetLined};
+ghost use Rattle.lining.specs.Watching.{SetsGrown, MoveWatched, MemberWatches};
+ghost use Rattle.lining.specs.LinedSets.{SetLined};
 
 // Where the kept dominating moves, the numbers of lines, the classes and the lines stand in the work slice.
 pub const DOMINATORS: usize = 0;
@@ -247,60 +247,53 @@ fn line_member(w: &mut [u32], n: usize, i: usize)
     w[LINE_TOTALS + i] = (end - begin) as u32;
 }
 
-// Whether the move at place j has the line it had, or none as it had none, when there were `old` classes.
-fn settled(w: &[u32], first: usize, j: usize, old: usize) -> bool
-    requires { ⌜ (first + j < 4096) × KeptFits (keptAt (now w) first j) × (targetAt (now w) first j ≤ 512) × (workEnd ≤ length (now w)) ⌝ }
-    ensures { λ r. ⌜ (r ≡ true → Settled (now (w .entry)) first j old) ⌝ }
+// Member i put into the sets of those that its move at place j looks at: the move's target and the member that is kept for it.
+fn watch_move(w: &[u32], sets: &mut [u64], width: usize, n: usize, first: usize, j: usize, i: usize)
+    requires { ⌜ (first + j < 4096) × (workEnd ≤ length (now w)) × (n ≤ 512) × (targetAt (now w) first j < n) × (i < 64 * width) × (width ≤ 8)
+        × (n * width ≤ length (now sets)) ⌝ }
+    ensures { λ _. ⌜ SetsGrown (now (sets .entry)) (now (sets .exit)) × MoveWatched (now (w .entry)) (now (sets .exit)) width n first j i ⌝ }
 {
-    let kept = w[DOMINATORS + first + j];
     let t = (w[MOVES + first + j] % 65536) as usize;
-    if kept == (j as u32) * 65536 + NONE {
-        return (class_at(w, t) as usize) < old;
+    place_sets::add_place(sets, t * width, i);
+    let q = (w[DOMINATORS + first + j] % 65536) as usize;
+    if q < n {
+        place_sets::add_place(sets, q * width, i);
     }
-    still_dominated(w, kept, t)
 }
 
-// Whether the member at place i has the lines it had when there were `old` classes.
-fn unchanged(w: &[u32], i: usize, old: usize) -> bool
-    requires { ⌜ ((n : ℕ) × Shape (now w) n × (i < n)) ⌝ }
-    ensures { λ r. ⌜ (r ≡ true → Unchanged (now (w .entry)) i old) ⌝ }
+// The member at place i put into the sets of those that its moves look at.
+fn watch_member(w: &[u32], sets: &mut [u64], width: usize, n: usize, i: usize)
+    requires { ⌜ Shape (now w) n × (i < n) × (i < 64 * width) × (width ≤ 8) × (n * width ≤ length (now sets)) ⌝ }
+    ensures { λ _. ⌜ MemberWatches (now (w .entry)) (now (sets .entry)) width n i (now (sets .exit)) ⌝ }
 {
-    if old == 0 {
-        return false;
-    }
     let first = first_move(w, i);
     let total = move_total(w, i);
-    let mut k: usize = 0;
-    while k < total {
-        if !settled(w, first, k, old) {
-            return false;
-        }
-        k += 1;
+    let mut j: usize = 0;
+    while j < total {
+        watch_move(w, sets, width, n, first, j, i);
+        j += 1;
     }
-    true
 }
 
-// The lines of the member at place i, left as they stand where they are unchanged.
-fn renew_member(w: &mut [u32], n: usize, i: usize, old: usize)
-    requires { ⌜ Shape (now w) n × (i < n) ⌝ }
-    ensures { λ _. ⌜ Renewed (now (w .entry)) n i old (now (w .exit)) ⌝ }
+// The lines of the members at the first k places of the list, each put into the sets of those that its moves look at.
+pub fn line_listed(
+    w: &mut [u32],
+    sets: &mut [u64],
+    width: usize,
+    n: usize,
+    list: &[u16; 512],
+    k: usize,
+)
+    requires { ⌜ Shape (now w) n × (k ≤ 512) × ((j : ℕ) → j < k → getD (now list) j 0 < n) × (n ≤ 64 * width) × (width ≤ 8)
+        × (n * width ≤ length (now sets)) ⌝ }
+    ensures { λ _. ⌜ SetLined (now (w .entry)) (now (sets .entry)) width n (now (list .entry)) k (now (w .exit)) (now (sets .exit)) ⌝ }
 {
-    if unchanged(w, i, old) {
-        return;
-    }
-    line_member(w, n, i);
-}
-
-// The lines of every member, where those of the round before stand in the slice and there were `old` classes then; 0 where none
-// were worked out yet.
-pub fn line_all(w: &mut [u32], n: usize, old: usize)
-    requires { ⌜ Shape (now w) n ⌝ }
-    ensures { λ _. ⌜ SetLined (now (w .entry)) n old n (now (w .exit)) ⌝ }
-{
-    let mut i: usize = 0;
-    while i < n {
-        renew_member(w, n, i, old);
-        i += 1;
+    let mut j: usize = 0;
+    while j < k {
+        let i = list[j] as usize;
+        line_member(w, n, i);
+        watch_member(w, sets, width, n, i);
+        j += 1;
     }
 }
 

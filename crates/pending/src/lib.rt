@@ -187,19 +187,25 @@ pub fn put_beside(
     }
 }
 
+// What is put at place j, where x stands, with y in the next place, when the thread at place i is taken out: x below place i, else y.
+fn later(x: u8, y: u8, i: usize, j: usize) -> u8
+    ensures { λ r. ⌜ (j < i → r ≡ x) × (i ≤ j → r ≡ y) ⌝ }
+{
+    if j < i { x } else { y }
+}
+
 // The configuration without its thread at place i.
 pub fn without(e: Configuration, i: usize) -> Configuration
     requires { ⌜ (i < e .count) × (e .count ≤ 8) ⌝ }
     ensures { λ r. ⌜ (configuration r ≡ record { store = e .store; threads = restWithout (configuration e .threads) i }) × (r .count + 1 ≡ e .count) ⌝ }
 {
     let mut threads = e.threads;
-    let n = e.count as usize;
-    let mut j = i;
-    while j + 1 < n {
-        threads[j] = threads[j + 1];
+    let mut j: usize = 0;
+    while j < 7 {
+        threads[j] = later(threads[j], threads[j + 1], i, j);
         j += 1;
     }
-    let count = (n - 1) as u8;
+    let count = e.count - 1;
     Configuration {
         store: e.store,
         count,

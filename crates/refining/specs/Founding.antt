@@ -14,8 +14,8 @@ use Rattle.lists.specs.Tests.{true-false, not-passes, not-back, Tested, tested,
 use Rattle.lists.specs.Frames.{SameOutside, outside-same, outside-set, outside-again}
 use Rattle.work_places.specs.WorkPlaces.{membersAt, workEnd}
 use Rattle.held_set.specs.HeldSet.{memberAt}
-use Rattle.splitting.specs.HeldRounds.{classesAt, birthsAt, firstsAt, linesAt, classIn}
-use Rattle.refining.specs.ClassedPlaces.{firstIn, Classed, classed-new, classed-append}
+use Rattle.splitting.specs.HeldRounds.{classesAt, birthsAt, chosenAt, linesAt, classIn}
+use Rattle.refining.specs.ClassedPlaces.{chosenIn, Classed, classed-new, classed-append}
 
 -- the store of the member at place i
 abbrev pub storeIn : List ℕ → ℕ → ℕ
@@ -45,7 +45,7 @@ told-later w i a b h ea eb = record {
 
 -- what the member at place i gets: a class of its own, born in round 0, or the class of the one before it
 pub data FoundOne (w : List ℕ) (i count : ℕ) (v : List ℕ) (r : ℕ) : Type 0 where
-  founder : AnotherStore w i → v ≡ set (set (set w (birthsAt + count) 0) (firstsAt + count) i) (classesAt + i) count
+  founder : AnotherStore w i → v ≡ set (set (set w (birthsAt + count) 0) (chosenAt + count) i) (classesAt + i) count
       → r ≡ count + 1 → FoundOne w i count v r
   follower : 0 < i → storeIn w (i - 1) ≡ storeIn w i → v ≡ set w (classesAt + i) (count - 1) → r ≡ count → FoundOne w i count v r
 
@@ -68,9 +68,8 @@ founding-first v = record {
   only = outside-same classesAt linesAt v;
   classed = record {
     known = λ i l. absurd (omega arith);
-    first-in = λ c l. absurd (omega arith);
-    first-of = λ c l. absurd (omega arith);
-    first-least = λ i l. absurd (omega arith);
+    chosen-in = λ c l. absurd (omega arith);
+    chosen-of = λ c l. absurd (omega arith);
   };
   founders = λ c l. absurd (omega arith);
   newest = λ h. absurd (omega arith);
@@ -124,7 +123,7 @@ module _ (v : List ℕ) (i : ℕ) (w : List ℕ) (count : ℕ) (F : Founding v i
       a = set w (birthsAt + count) 0
 
       b : List ℕ
-      b = set a (firstsAt + count) i
+      b = set a (chosenAt + count) i
 
       x : List ℕ
       x = set b (classesAt + i) count
@@ -133,7 +132,7 @@ module _ (v : List ℕ) (i : ℕ) (w : List ℕ) (count : ℕ) (F : Founding v i
       la = length-set w (birthsAt + count) 0 ∙ F .only .long
 
       lb : length b ≡ length v
-      lb = length-set a (firstsAt + count) i ∙ la
+      lb = length-set a (chosenAt + count) i ∙ la
 
       own : classIn x i ≡ count
       own = getD-set-same b (classesAt + i) count 0 (omega (arith, lb))
@@ -141,24 +140,24 @@ module _ (v : List ℕ) (i : ℕ) (w : List ℕ) (count : ℕ) (F : Founding v i
       classes : (j : ℕ) → j < 512 → (j ≡ i → ⊥) → classIn x j ≡ classIn w j
       classes j h e =
           getD-set-other b (classesAt + i) (classesAt + j) count 0 (λ z. e (omega arith))
-          ∙ getD-set-other a (firstsAt + count) (classesAt + j) i 0 (λ z. omega arith)
+          ∙ getD-set-other a (chosenAt + count) (classesAt + j) i 0 (λ z. omega arith)
           ∙ getD-set-other w (birthsAt + count) (classesAt + j) 0 0 (λ z. omega arith)
 
-      first-own : firstIn x count ≡ i
+      first-own : chosenIn x count ≡ i
       first-own =
-          getD-set-other b (classesAt + i) (firstsAt + count) count 0 (λ z. omega arith)
-          ∙ getD-set-same a (firstsAt + count) i 0 (omega (arith, la, F .count-fits))
+          getD-set-other b (classesAt + i) (chosenAt + count) count 0 (λ z. omega arith)
+          ∙ getD-set-same a (chosenAt + count) i 0 (omega (arith, la, F .count-fits))
 
-      first : (c : ℕ) → c < count → firstIn x c ≡ firstIn w c
+      first : (c : ℕ) → c < count → chosenIn x c ≡ chosenIn w c
       first c h =
-          getD-set-other b (classesAt + i) (firstsAt + c) count 0 (λ z. omega arith)
-          ∙ getD-set-other a (firstsAt + count) (firstsAt + c) i 0 (λ z. omega arith)
-          ∙ getD-set-other w (birthsAt + count) (firstsAt + c) 0 0 (λ z. omega (arith, F .count-fits))
+          getD-set-other b (classesAt + i) (chosenAt + c) count 0 (λ z. omega arith)
+          ∙ getD-set-other a (chosenAt + count) (chosenAt + c) i 0 (λ z. omega arith)
+          ∙ getD-set-other w (birthsAt + count) (chosenAt + c) 0 0 (λ z. omega (arith, F .count-fits))
 
       born : (c : ℕ) → c < suc count → Tested (eqb c count) → getD x (birthsAt + c) 0 ≡ 0
       born c h t =
           getD-set-other b (classesAt + i) (birthsAt + c) count 0 (λ z. omega arith)
-          ∙ getD-set-other a (firstsAt + count) (birthsAt + c) i 0 (λ z. omega (arith, F .count-fits))
+          ∙ getD-set-other a (chosenAt + count) (birthsAt + c) i 0 (λ z. omega (arith, F .count-fits))
           ∙ go t
         where
           go : Tested (eqb c count) → getD a (birthsAt + c) 0 ≡ 0
@@ -176,10 +175,10 @@ module _ (v : List ℕ) (i : ℕ) (w : List ℕ) (count : ℕ) (F : Founding v i
       new = record {
         only = outside-again (F .only) (outside-again (outside-set classesAt linesAt w (birthsAt + count) 0 (omega arith)
             (omega (arith, F .count-fits)))
-            (outside-again (outside-set classesAt linesAt a (firstsAt + count) i (omega arith) (omega (arith, F .count-fits)))
+            (outside-again (outside-set classesAt linesAt a (chosenAt + count) i (omega arith) (omega (arith, F .count-fits)))
             (outside-set classesAt linesAt b (classesAt + i) count (omega arith) (omega arith))));
         classed = classed-new (F .classed) i (i + 1) (omega arith) (omega arith) (omega (arith, F .count-fits)) (omega (arith, F .only .long))
-            (λ c h e. omega (arith, F .classed .first-in c h)) (λ j h e. omega arith) (omega arith) x own first-own classes first;
+            (λ c h e. omega (arith, F .classed .chosen-in c h)) (λ j h e. omega arith) (omega arith) x own first-own classes first;
         founders = λ c h. born c h (tested (eqb c count));
         newest = λ h. omega (arith, ap (classIn x) before, own);
         count-fits = omega (arith, F .count-fits);
@@ -225,7 +224,7 @@ module _ (v : List ℕ) (i : ℕ) (w : List ℕ) (count : ℕ) (F : Founding v i
       more = record {
         only = outside-again (F .only) (outside-set classesAt linesAt w (classesAt + i) (count - 1) (omega arith) (omega arith));
         classed = classed-append (F .classed) (count - 1) some x own classes
-            (λ c l. getD-set-other w (classesAt + i) (firstsAt + c) (count - 1) 0 (λ z. omega arith));
+            (λ c l. getD-set-other w (classesAt + i) (chosenAt + c) (count - 1) 0 (λ z. omega arith));
         founders = λ c l. getD-set-other w (classesAt + i) (birthsAt + c) (count - 1) 0 (λ z. omega arith) ∙ F .founders c l;
         newest = λ l. omega (arith, ap (classIn x) before, own, some);
         count-fits = omega (arith, F .count-fits);

@@ -3,5 +3,8 @@ pub mod Founding
 pub mod LineTests
 pub mod MemberSplits
 pub mod Stages
+pub mod Choosing
+pub mod Waking
 pub mod SplitRounds
+pub mod NextClasses
 pub mod RoundsHeld

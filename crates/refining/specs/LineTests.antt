@@ -15,7 +15,7 @@ use Rattle.work_places.specs.WorkPlaces.{workEnd}
 use Rattle.held_set.specs.HeldSet.{firstMove}
 use Rattle.splitting.specs.HeldRounds.{linesAt, fromIn}
 use Rattle.lining.specs.LinedMembers.{lineTotal}
-use Rattle.refining.specs.ClassedPlaces.{Tells, firstIn}
+use Rattle.refining.specs.ClassedPlaces.{Tells, chosenIn}
 
 -- the k numbers from place a on
 abbrev pub numbersFrom : List ℕ → ℕ → ℕ → List ℕ
@@ -29,9 +29,9 @@ linesHeld w i = numbersFrom w (linesAt + firstMove w i) (lineTotal w i)
 abbrev pub LineFits : List ℕ → ℕ → Type 0
 LineFits w i = (i < 512) × (firstMove w i + lineTotal w i ≤ 4096)
 
--- class k came from class c, and its first member has the lines of the member at place i
+-- class k came from class c, and its chosen member has the lines of the member at place i
 abbrev pub PartFits : List ℕ → ℕ → ℕ → ℕ → Type 0
-PartFits w k c i = (fromIn w k ≡ c) × (linesHeld w i ≡ linesHeld w (firstIn w k))
+PartFits w k c i = (fromIn w k ≡ c) × (linesHeld w i ≡ linesHeld w (chosenIn w k))
 
 by-places : (w : List ℕ) (a k : ℕ) → a + k ≤ length w → numbersFrom w a k ≡ tabulate (λ j. getD w (a + j) 0) k
 by-places w a k h =
@@ -82,6 +82,6 @@ lines-tell w i j f g k r ef eg ei ej t =
     record { holds = λ h. sym a ∙ t .holds h ∙ b; not-so = λ h e. t .not-so h (a ∙ e ∙ sym b) }
 
 -- the class came from c, so it is a part of c if the lines are the same
-pub part-tell : (w : List ℕ) (k c i : ℕ) (r : Bool) → fromIn w k ≡ c → Tells r (linesHeld w i ≡ linesHeld w (firstIn w k)) → Tells r
+pub part-tell : (w : List ℕ) (k c i : ℕ) (r : Bool) → fromIn w k ≡ c → Tells r (linesHeld w i ≡ linesHeld w (chosenIn w k)) → Tells r
     (PartFits w k c i)
 part-tell w k c i r e t = record { holds = λ h. (e, t .holds h); not-so = λ h f. t .not-so h (f .1) }

@@ -10,9 +10,9 @@ use borrow.Author.Tests.{eqb-true, eqb-false}
 use Rattle.lists.specs.Tests.{Tested, tested, passes, fails}
 use Rattle.work_places.specs.WorkPlaces.{workEnd}
 use Rattle.held_set.specs.HeldSet.{firstMove}
-use Rattle.splitting.specs.HeldRounds.{classesAt, birthsAt, firstsAt, classIn}
+use Rattle.splitting.specs.HeldRounds.{classesAt, birthsAt, chosenAt, classIn}
 use Rattle.lining.specs.LinedMembers.{lineTotal}
-use Rattle.refining.specs.ClassedPlaces.{Tells, firstIn, Classed, classed-count, classed-spare}
+use Rattle.refining.specs.ClassedPlaces.{Tells, chosenIn, Classed, classed-count, classed-spare}
 use Rattle.refining.specs.LineTests.{linesHeld, LineFits, PartFits}
 
 -- the part of class c, among those from `old` on, that has the lines of the member at place i; count where there is none
@@ -47,37 +47,37 @@ module _ {w : List ℕ} {i old count : ℕ} (R : MemberReady w i old count) wher
   pub ready-count : count ≤ 512
   ready-count = omega (arith, classed-count (R .classed), R .few)
 
-  pub ready-lines : (c : ℕ) → c < count → LineFits w (firstIn w c)
+  pub ready-lines : (c : ℕ) → c < count → LineFits w (chosenIn w c)
   ready-lines c l =
-      let h : firstIn w c < R .n = R .classed .first-in c l in
-      (omega (arith, R .few), R .lines (firstIn w c) h)
+      let h : chosenIn w c < R .n = R .classed .chosen-in c l in
+      (omega (arith, R .few), R .lines (chosenIn w c) h)
 
   pub ready-own : LineFits w i
   ready-own = (omega (arith, R .few, R .inside), R .lines i (R .inside))
 
-  -- a member without the lines of its class's first one is not that one, so there is room for a class
-  pub ready-other : (linesHeld w i ≡ linesHeld w (firstIn w (classIn w i)) → ⊥) → firstIn w (classIn w i) ≡ i → ⊥
+  -- a member without the lines of its class's chosen one is not that one, so there is room for a class
+  pub ready-other : (linesHeld w i ≡ linesHeld w (chosenIn w (classIn w i)) → ⊥) → chosenIn w (classIn w i) ≡ i → ⊥
   ready-other d e = d (ap (linesHeld w) (sym e))
 
-  pub ready-room : (linesHeld w i ≡ linesHeld w (firstIn w (classIn w i)) → ⊥) → count < 512
+  pub ready-room : (linesHeld w i ≡ linesHeld w (chosenIn w (classIn w i)) → ⊥) → count < 512
   ready-room d = omega (arith, classed-spare (R .classed) i (R .inside) (ready-other d), R .few)
 
 -- what is stored for it
 pub data MemberSplit (w : List ℕ) (round i old count : ℕ) (v : List ℕ) (r : ℕ) : Type 0 where
-  keeps : linesHeld w i ≡ linesHeld w (firstIn w (classIn w i)) → v ≡ w → r ≡ count → MemberSplit w round i old count v r
-  joins : (linesHeld w i ≡ linesHeld w (firstIn w (classIn w i)) → ⊥) → (k : ℕ) → old ≤ k → k < count → PartFits w k (classIn w i) i
+  keeps : linesHeld w i ≡ linesHeld w (chosenIn w (classIn w i)) → v ≡ w → r ≡ count → MemberSplit w round i old count v r
+  joins : (linesHeld w i ≡ linesHeld w (chosenIn w (classIn w i)) → ⊥) → (k : ℕ) → old ≤ k → k < count → PartFits w k (classIn w i) i
       → v ≡ set w (classesAt + i) k → r ≡ count → MemberSplit w round i old count v r
-  begins : (linesHeld w i ≡ linesHeld w (firstIn w (classIn w i)) → ⊥) → ((k : ℕ) → old ≤ k → k < count → PartFits w k (classIn w i) i → ⊥)
-      → v ≡ set (set (set w (classesAt + i) count) (birthsAt + count) (classIn w i * 65536 + round)) (firstsAt + count) i
+  begins : (linesHeld w i ≡ linesHeld w (chosenIn w (classIn w i)) → ⊥) → ((k : ℕ) → old ≤ k → k < count → PartFits w k (classIn w i) i → ⊥)
+      → v ≡ set (set (set w (classesAt + i) count) (birthsAt + count) (classIn w i * 65536 + round)) (chosenAt + count) i
       → r ≡ count + 1 → MemberSplit w round i old count v r
 
 -- the same, with the class c of the member as it was read, the answer t on the lines, and the part k that was found
 module _ (w : List ℕ) (round i old count c : ℕ) (is : c ≡ classIn w i) (t : Bool)
-    (T : Tells t (linesHeld w i ≡ linesHeld w (firstIn w c))) where
-  to-first : linesHeld w (firstIn w c) ≡ linesHeld w (firstIn w (classIn w i))
-  to-first = ap (λ (z : ℕ). linesHeld w (firstIn w z)) is
+    (T : Tells t (linesHeld w i ≡ linesHeld w (chosenIn w c))) where
+  to-first : linesHeld w (chosenIn w c) ≡ linesHeld w (chosenIn w (classIn w i))
+  to-first = ap (λ (z : ℕ). linesHeld w (chosenIn w z)) is
 
-  differs : t ≡ false → linesHeld w i ≡ linesHeld w (firstIn w (classIn w i)) → ⊥
+  differs : t ≡ false → linesHeld w i ≡ linesHeld w (chosenIn w (classIn w i)) → ⊥
   differs h e = T .not-so h (e ∙ sym to-first)
 
   pub read-room : MemberReady w i old count → t ≡ false → count < 512
@@ -93,9 +93,9 @@ module _ (w : List ℕ) (round i old count c : ℕ) (is : c ≡ classIn w i) (t 
         joins (differs h) k (F .within .0) l (x .0 ∙ is, x .1) refl refl
 
     pub split-begins : count ≤ k → (v : List ℕ)
-        → v ≡ set (set (set w (classesAt + i) k) (birthsAt + count) (c * 65536 + round)) (firstsAt + count) i
+        → v ≡ set (set (set w (classesAt + i) k) (birthsAt + count) (c * 65536 + round)) (chosenAt + count) i
         → MemberSplit w round i old count v (count + 1)
     split-begins l v e =
         let ek : k ≡ count = omega (arith, F .within .1) in
         begins (differs h) (λ p a b f. F .none ek p a b (f .0 ∙ sym is, f .1))
-        (e ∙ ap₂ (λ (x y : ℕ). set (set (set w (classesAt + i) x) (birthsAt + count) (y * 65536 + round)) (firstsAt + count) i) ek is) refl
+        (e ∙ ap₂ (λ (x y : ℕ). set (set (set w (classesAt + i) x) (birthsAt + count) (y * 65536 + round)) (chosenAt + count) i) ek is) refl

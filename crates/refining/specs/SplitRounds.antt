@@ -1,8 +1,9 @@
--- One round, member by member: the first k places have their classes of the next round, the others still have the present ones.
+-- One round, member by member: those that are done have their classes of the next round, the others still have the present ones.
 use mathlib.Core.Path.{_≡_, refl, sym, ap, ap₂, _∙_, subst}
 use mathlib.Core.Logic.{_⊎_, inl, inr}
+use mathlib.Core.Bool.{true, false}
 use mathlib.Core.List.{List}
-use Prim.Native.Nat.{ℕ, suc, _+_, _*_, _/_, _≤_, _<_}
+use Prim.Native.Nat.{ℕ, _+_, _*_, _/_, _%_, _≤_, _<_}
 use native.Mathlib.Omega.{arith}
 use native.Mathlib.Numerals.{add-one}
 use lib.ListN.{length, getD, set, length-set}
@@ -13,39 +14,76 @@ use Rattle.lists.specs.Tests.{Tested, tested, passes, fails}
 use Rattle.lists.specs.Frames.{SameOutside, outside-same, outside-set, outside-again}
 use Rattle.number_lists.specs.NumberLists.{numbersIn}
 use Rattle.number_lists.specs.NumberLaws.{numbers-outside}
-use Rattle.sheets.specs.Sheet.{Configuration, Sheet}
 use Rattle.work_places.specs.WorkPlaces.{spansAt, workEnd}
 use Rattle.held_set.specs.HeldSet.{firstMove}
-use Rattle.splitting.specs.SplitParts.{parts-none, parts-firsts}
-use Rattle.splitting.specs.HeldRounds.{lineTotalsAt, classesAt, birthsAt, firstsAt, linesAt, classIn, bornIn, fromIn}
-use Rattle.splitting.specs.HeldParts.{parts-held-same, store-join, store-none, store-new}
+use Rattle.splitting.specs.HeldRounds.{lineTotalsAt, classesAt, birthsAt, chosenAt, linesAt, classIn, bornIn, fromIn}
 use Rattle.lining.specs.LinedMembers.{lineTotal}
-use Rattle.refining.specs.ClassedPlaces.{firstIn, Classed, classed-count, classed-spare, classed-join, classed-new, first-or-later}
+use Rattle.refining.specs.ClassedPlaces.{chosenIn, Classed, classed-count, classed-spare, classed-join, classed-new}
 use Rattle.refining.specs.LineTests.{linesHeld, PartFits}
 use Rattle.refining.specs.MemberSplits.{MemberReady, MemberSplit, keeps, joins, begins}
-use Rattle.refining.specs.Stages.{TogetherHeld, Stage, StageParts, stage-reflexive, stage-symmetric, stage-transitive, stage-down, stage-count, stage-next}
 
--- from v, with `old` classes, on: w has `count` classes and the first k places are done
-pub record Splitting (v : List ℕ) (n round old : ℕ) (w : List ℕ) (count k : ℕ) : Type 0 where
+-- from v, with `old` classes, on: w has `count` classes, and the members that are done have theirs
+pub record Splitting (v : List ℕ) (n round old : ℕ) (w : List ℕ) (count : ℕ) (Done : ℕ → Type 0) : Type 0 where
   pub only : SameOutside classesAt linesAt v w
   pub classed : Classed w n count
   pub more : old ≤ count
-  pub undone : (i : ℕ) → k ≤ i → i < n → classIn w i ≡ classIn v i
-  pub new-first : (c : ℕ) → old ≤ c → c < count → firstIn w c < k
-  pub parts : (sheet : Sheet) (members : List Configuration) (m r : ℕ) → round ≡ suc r → (S : Stage sheet members v n m r old)
-      → StageParts S w count k
+  pub old-births : (c : ℕ) → c < old → getD w (birthsAt + c) 0 ≡ getD v (birthsAt + c) 0
+  pub new-births : (c : ℕ) → old ≤ c → c < count → (bornIn w c ≡ round) × (fromIn w c < old)
+  pub old-chosen : (c : ℕ) → c < old → chosenIn w c ≡ chosenIn v c
+  -- an old number stands for the class itself, a new one for a class that came from it
+  pub kept : (i : ℕ) → i < n → classIn w i < old → classIn w i ≡ classIn v i
+  pub came : (i : ℕ) → i < n → old ≤ classIn w i → fromIn w (classIn w i) ≡ classIn v i
+  -- only a member that is done has a new one
+  pub moved : (i : ℕ) → i < n → old ≤ classIn w i → Done i
+  -- it has the lines of its class's chosen member, and classes that came from one class have others
+  pub alike : (i : ℕ) → i < n → Done i → linesHeld v i ≡ linesHeld v (chosenIn w (classIn w i))
+  pub apart-old : (c : ℕ) → old ≤ c → c < count → linesHeld v (chosenIn w c) ≡ linesHeld v (chosenIn w (fromIn w c)) → ⊥
+  pub apart-new : (c d : ℕ) → old ≤ c → c < count → old ≤ d → d < count → fromIn w c ≡ fromIn w d
+      → linesHeld v (chosenIn w c) ≡ linesHeld v (chosenIn w d) → c ≡ d
 
-pub splitting-first : (v : List ℕ) (n round old : ℕ) → Classed v n old → Splitting v n round old v old 0
-splitting-first v n round old C = record {
+pub splitting-first : (v : List ℕ) (n round old : ℕ) → Classed v n old → (Done : ℕ → Type 0) → ((i : ℕ) → Done i → ⊥)
+    → Splitting v n round old v old Done
+splitting-first v n round old C Done none = record {
   only = outside-same classesAt linesAt v;
   classed = C;
   more = omega arith;
-  undone = λ i h l. refl;
-  new-first = λ c h l. absurd (omega arith);
-  parts = λ sheet members m r e S.
-      parts-none (length members) (TogetherHeld sheet members) r (stage-reflexive S) (stage-symmetric S) (stage-transitive S) (stage-down S)
-      (fromIn v) (bornIn v) old (classIn v) (S .present) (classIn v);
+  old-births = λ c l. refl;
+  new-births = λ c h l. absurd (omega arith);
+  old-chosen = λ c l. refl;
+  kept = λ i l h. refl;
+  came = λ i l h. absurd (omega (arith, C .known i l));
+  moved = λ i l h. absurd (omega (arith, C .known i l));
+  alike = λ i l d. absurd (none i d);
+  apart-old = λ c h l. absurd (omega arith);
+  apart-new = λ c d h l. absurd (omega arith);
 }
+
+-- all are done where each is done or has the lines of its class's chosen member from the start
+pub splitting-all : {v : List ℕ} {n round old : ℕ} {w : List ℕ} {count : ℕ} {Done : ℕ → Type 0} → Splitting v n round old w count Done
+    → ((i : ℕ) → i < n → Done i ⊎ (linesHeld v i ≡ linesHeld v (chosenIn v (classIn v i))))
+    → Splitting v n round old w count (λ i. i < n)
+splitting-all {v} {n} {round} {old} {w} {count} {Done} Z f = record {
+  only = Z .only;
+  classed = Z .classed;
+  more = Z .more;
+  old-births = Z .old-births;
+  new-births = Z .new-births;
+  old-chosen = Z .old-chosen;
+  kept = Z .kept;
+  came = Z .came;
+  moved = λ i l h. l;
+  alike = λ i l d. go i l (f i l) (tested (ltb (classIn w i) old));
+  apart-old = Z .apart-old;
+  apart-new = Z .apart-new;
+}
+  where
+    go : (i : ℕ) → i < n → Done i ⊎ (linesHeld v i ≡ linesHeld v (chosenIn v (classIn v i))) → Tested (ltb (classIn w i) old)
+        → linesHeld v i ≡ linesHeld v (chosenIn w (classIn w i))
+    go i l (inl d) t = Z .alike i l d
+    go i l (inr e) (passes y) =
+        let b : classIn w i < old = ltb-true (classIn w i) old y in
+        e ∙ sym (ap (linesHeld v) (Z .old-chosen (classIn w i) b ∙ ap (chosenIn v) (Z .kept i l b)))
+    go i l (inr e) (fails y) = Z .alike i l (Z .moved i l (ltb-false (classIn w i) old y))
 
 -- what is stored for classes leaves the lines alone
 module _ {v w : List ℕ} (s : SameOutside classesAt linesAt v w) where
@@ -60,9 +98,9 @@ module _ {v w : List ℕ} (s : SameOutside classesAt linesAt v w) where
       ap₂ (λ (f t : ℕ). numbersIn w (linesAt + f) (linesAt + f + t)) (first-move-same i h) (line-total-same i h)
       ∙ numbers-outside (linesAt + firstMove v i) (linesAt + firstMove v i + lineTotal v i) (inr (omega arith)) s
 
-module _ (v : List ℕ) (n round old : ℕ) (w : List ℕ) (count k : ℕ) (Z : Splitting v n round old w count k)
-    (few : n ≤ 512) (long : workEnd ≤ length v) where
-  -- what the next member needs
+module _ (v : List ℕ) (n round old : ℕ) (w : List ℕ) (count : ℕ) (Done : ℕ → Type 0) (Z : Splitting v n round old w count Done)
+    (k : ℕ) (few : n ≤ 512) (long : workEnd ≤ length v) where
+  -- what member k needs
   pub splitting-ready : k < n → ((j : ℕ) → j < n → firstMove v j + lineTotal v j ≤ 4096) → MemberReady w k old count
   splitting-ready l f = record {
     n = n;
@@ -74,12 +112,28 @@ module _ (v : List ℕ) (n round old : ℕ) (w : List ℕ) (count k : ℕ) (Z : 
     lines = λ j h. omega (arith, f j h, first-move-same (Z .only) j (omega arith), line-total-same (Z .only) j (omega arith));
   }
 
-  module _ (l : k < n) where
+  -- it is done next
+  module _ (l : k < n) (old-class : (i : ℕ) → i < n → classIn v i < old) (new : Done k → ⊥) (More : ℕ → Type 0) (this : More k)
+      (up : (i : ℕ) → Done i → More i) (back : (i : ℕ) → More i → (i ≡ k → ⊥) → Done i) where
     long-now : workEnd ≤ length w
     long-now = omega (arith, Z .only .long)
 
     own : classIn w k ≡ classIn v k
-    own = Z .undone k (omega arith) l
+    own = go (tested (ltb (classIn w k) old))
+      where
+        go : Tested (ltb (classIn w k) old) → classIn w k ≡ classIn v k
+        go (passes y) = Z .kept k l (ltb-true (classIn w k) old y)
+        go (fails y) = absurd (new (Z .moved k l (ltb-false (classIn w k) old y)))
+
+    own-old : classIn w k < old
+    own-old = omega (arith, own, old-class k l)
+
+    count-few : count ≤ 512
+    count-few = omega (arith, classed-count (Z .classed))
+
+    -- the chosen member of a class
+    model : (c : ℕ) → c < count → chosenIn w c < n
+    model c h = Z .classed .chosen-in c h
 
     -- equal lines of places below n, in w and in v
     same : (i j : ℕ) → i < n → j < n → linesHeld w i ≡ linesHeld w j → linesHeld v i ≡ linesHeld v j
@@ -88,272 +142,265 @@ module _ (v : List ℕ) (n round old : ℕ) (w : List ℕ) (count k : ℕ) (Z : 
     same-back : (i j : ℕ) → i < n → j < n → linesHeld v i ≡ linesHeld v j → linesHeld w i ≡ linesHeld w j
     same-back i j hi hj e = lines-held-same (Z .only) i (omega arith) ∙ e ∙ sym (lines-held-same (Z .only) j (omega arith))
 
-    count-few : count ≤ 512
-    count-few = omega (arith, classed-count (Z .classed))
-
-    module _ (sheet : Sheet) (members : List Configuration) (m r : ℕ) (e : round ≡ suc r) (S : Stage sheet members v n m r old) where
-      P : StageParts S w count k
-      P = Z .parts sheet members m r e S
-
-      size : length members ≡ n
-      size = stage-count S
-
-      -- the class of the member is one of the old ones
-      own-old : classIn w k < old
-      own-old = omega (arith, own, S .classed .known k l)
-
-      -- a done place that has a class, by now or before, came from the same class
-      old-class : (j : ℕ) → j < k → (classIn w j < old) ⊎ (old ≤ classIn w j)
-      old-class j h = go (tested (ltb (classIn w j) old))
-        where
-          go : Tested (ltb (classIn w j) old) → (classIn w j < old) ⊎ (old ≤ classIn w j)
-          go (passes y) = inl (ltb-true (classIn w j) old y)
-          go (fails y) = inr (ltb-false (classIn w j) old y)
-
-      -- ---- it keeps its class
-      keeps-parts : linesHeld w k ≡ linesHeld w (firstIn w (classIn w k)) → StageParts S w count (suc k)
-      keeps-parts h = go (first-or-later (Z .classed) k l)
-        where
-          first-place : firstIn w (classIn w k) < n
-          first-place = Z .classed .first-in (classIn w k) (Z .classed .known k l)
-
-          -- no place before it has its class
-          alone : firstIn w (classIn w k) ≡ k → (j : ℕ) → j < k → classIn v j ≡ classIn v k → ⊥
-          alone a j b z = by (old-class j b)
-            where
-              by : (classIn w j < old) ⊎ (old ≤ classIn w j) → ⊥
-              by (inl x) =
-                  let y : classIn w j ≡ classIn w k = P .kept j b x ∙ z ∙ sym own in
-                  omega (arith, Z .classed .first-least j (omega arith), ap (firstIn w) y)
-              by (inr x) =
-                  let y = P .old-used j b in
-                  omega (arith, Z .classed .first-least (y .0) (omega (arith, y .1)), ap (firstIn w) (y .2 ∙ z ∙ sym own), y .1)
-
-          go : (firstIn w (classIn w k) ≡ k) ⊎ (firstIn w (classIn w k) < k) → StageParts S w count (suc k)
-          go (inl a) =
-              store-none (length members) (TogetherHeld sheet members) r (stage-reflexive S) (stage-symmetric S) (stage-transitive S)
-              (stage-down S)
-              (fromIn v) (bornIn v) old (classIn v) (S .present) w count k P (omega (arith, size)) (omega (arith, size)) long-now own
-              (alone a)
-          go (inr a) =
-              let j : ℕ = firstIn w (classIn w k) in
-              let ej : classIn w j ≡ classIn w k = Z .classed .first-of (classIn w k) (Z .classed .known k l) in
-              let cj : classIn v j ≡ classIn v k = sym (P .kept j a (omega (arith, ej, own-old))) ∙ ej ∙ own in
-              let t = stage-next S j k first-place l .0 (cj, sym (same k j l first-place h)) in
-              parts-held-same (length members) (TogetherHeld sheet members) r (stage-reflexive S) (stage-symmetric S)
-              (stage-transitive S) (stage-down S)
-              (fromIn v) (bornIn v) old (classIn v) (S .present) (set w (classesAt + k) (classIn w j)) w count (suc k)
-              count-few (omega arith)
-              (store-join (length members) (TogetherHeld sheet members) r (stage-reflexive S) (stage-symmetric S) (stage-transitive S)
-              (stage-down S)
-              (fromIn v) (bornIn v) old (classIn v) (S .present) w count k P (omega (arith, size))
-              (omega (arith, size)) long-now count-few j a t)
-              (λ i b d. unchanged (classIn w j) ej i (tested (eqb i (classesAt + k))))
-            where
-              unchanged : (x : ℕ) → x ≡ classIn w k → (i : ℕ) → Tested (eqb i (classesAt + k)) → getD w i 0 ≡ getD
-                  (set w (classesAt + k) x) i 0
-              unchanged x y i (passes z) =
-                  let q : i ≡ classesAt + k = eqb-true i (classesAt + k) z in
-                  ap (λ (g : ℕ). getD w g 0) q ∙ sym y ∙ sym (getD-set-same w (classesAt + k) x 0 (omega (arith, long-now)))
-                  ∙ ap (λ (g : ℕ). getD (set w (classesAt + k) x) g 0) (sym q)
-              unchanged x y i (fails z) = sym (getD-set-other w (classesAt + k) i x 0 (eqb-false i (classesAt + k) z))
-
-      -- ---- it joins a part
-      joins-parts : (p : ℕ) → old ≤ p → p < count → PartFits w p (classIn w k) k → StageParts S (set w (classesAt + k) p) count (suc k)
-      joins-parts p b d f =
-          let j : ℕ = firstIn w p in
-          let lj : j < k = Z .new-first p b d in
-          let ej : classIn w j ≡ p = Z .classed .first-of p d in
-          let cj : classIn v j ≡ classIn v k = sym (P .came j lj (omega (arith, ej))) ∙ ap (fromIn w) ej ∙ f .0 ∙ own in
-          let t = stage-next S j k (omega arith) l .0 (cj, sym (same k j l (omega arith) (f .1))) in
-          subst (λ (z : ℕ). StageParts S (set w (classesAt + k) z) count (suc k)) ej
-          (store-join (length members) (TogetherHeld sheet members) r (stage-reflexive S) (stage-symmetric S) (stage-transitive S)
-          (stage-down S)
-          (fromIn v) (bornIn v) old (classIn v) (S .present) w count k P (omega (arith, size))
-          (omega (arith, size)) long-now count-few j lj t)
-
-      -- ---- it begins a part
-      begins-parts : round < 65536 → count < 512 → (linesHeld w k ≡ linesHeld w (firstIn w (classIn w k)) → ⊥)
-          → ((p : ℕ) → old ≤ p → p < count → PartFits w p (classIn w k) k → ⊥)
-          → (u : List ℕ) → u ≡ set (set (set w (classesAt + k) count) (birthsAt + count) (classIn w k * 65536 + round)) (firstsAt + count) k
-          → StageParts S u (suc count) (suc k)
-      begins-parts small room d f u eu =
-          parts-held-same (length members) (TogetherHeld sheet members) r (stage-reflexive S) (stage-symmetric S) (stage-transitive S)
-          (stage-down S)
-          (fromIn v) (bornIn v) old (classIn v) (S .present) x u (suc count) (suc k) (omega arith) (omega arith)
-          (store-new (length members) (TogetherHeld sheet members) r (stage-reflexive S) (stage-symmetric S) (stage-transitive S)
-          (stage-down S)
-          (fromIn v) (bornIn v) old (classIn v) (S .present) w count k P (omega (arith, size)) (omega (arith, size)) long-now room
-          (omega arith)
-          j lj cj none)
-          (λ i a b. rw eu (there i a b (tested (eqb i (classesAt + k))) (tested (eqb i (birthsAt + count)))))
-        where
-          j : ℕ
-          j = firstIn w (classIn w k)
-
-          ej : classIn w j ≡ classIn w k
-          ej = Z .classed .first-of (classIn w k) (Z .classed .known k l)
-
-          jn : j < n
-          jn = Z .classed .first-in (classIn w k) (Z .classed .known k l)
-
-          lj : j < k
-          lj = go (first-or-later (Z .classed) k l)
-            where
-              go : (firstIn w (classIn w k) ≡ k) ⊎ (firstIn w (classIn w k) < k) → firstIn w (classIn w k) < k
-              go (inl a) = absurd (d (ap (linesHeld w) (sym a)))
-              go (inr a) = a
-
-          cj : classIn v j ≡ classIn v k
-          cj = sym (P .kept j lj (omega (arith, ej, own-old))) ∙ ej ∙ own
-
-          none : (i : ℕ) → i < k → TogetherHeld sheet members (suc r) i k → ⊥
-          none =
-              parts-firsts (length members) (TogetherHeld sheet members) r (stage-reflexive S) (stage-symmetric S) (stage-transitive S)
-              (stage-down S)
-              (fromIn v) (bornIn v) old (classIn v) (S .present) (fromIn w) (bornIn w) count k (classIn w) (classIn w) P (omega (arith, size))
-              (λ i a. refl) (firstIn w)
-              (λ i a. (
-                omega (arith, Z .classed .first-least i (omega arith)),
-                Z .classed .first-of (classIn w i)
-                    (Z .classed .known i (omega arith)),
-              ))
-              (λ i a c t. not-with i a c t (old-class i a))
-            where
-              not-with : (i : ℕ) → i < k → classIn v i ≡ classIn v k → TogetherHeld sheet members (suc r) (firstIn w (classIn w i)) k
-                  → (classIn w i < old) ⊎ (old ≤ classIn w i) → ⊥
-              not-with i a c t o =
-                  let g : ℕ = firstIn w (classIn w i) in
-                  let gn : g < n = Z .classed .first-in (classIn w i) (Z .classed .known i (omega arith)) in
-                  let y : linesHeld w k ≡ linesHeld w g = sym (same-back g k gn l (stage-next S g k gn l .1 t .1)) in
-                  by y o
-                where
-                  by : linesHeld w k ≡ linesHeld w (firstIn w (classIn w i)) → (classIn w i < old) ⊎ (old ≤ classIn w i) → ⊥
-                  by y (inl x) =
-                      let z : classIn w i ≡ classIn w k = P .kept i a x ∙ c ∙ sym own in
-                      d (y ∙ ap (λ (q : ℕ). linesHeld w (firstIn w q)) z)
-                  by y (inr x) = f (classIn w i) x (Z .classed .known i (omega arith)) (P .came i a x ∙ c ∙ sym own, y)
-
-          birth : ℕ
-          birth = classIn w k * 65536 + round
-
-          birth-is : birth ≡ classIn v k * 65536 + suc r
-          birth-is = ap₂ (λ (a b : ℕ). a * 65536 + b) own e
-
-          x : List ℕ
-          x = set (set w (birthsAt + count) (classIn v k * 65536 + suc r)) (classesAt + k) count
-
-          a1 : List ℕ
-          a1 = set w (classesAt + k) count
-
-          a2 : List ℕ
-          a2 = set a1 (birthsAt + count) birth
-
-          b1 : List ℕ
-          b1 = set w (birthsAt + count) (classIn v k * 65536 + suc r)
-
-          there : (i : ℕ) → classesAt ≤ i → i < firstsAt → Tested (eqb i (classesAt + k)) → Tested (eqb i (birthsAt + count))
-              → getD (set a2 (firstsAt + count) k) i 0 ≡ getD x i 0
-          there i a b t s = getD-set-other a2 (firstsAt + count) i k 0 (λ z. omega arith) ∙ go t s
-            where
-              go : Tested (eqb i (classesAt + k)) → Tested (eqb i (birthsAt + count)) → getD a2 i 0 ≡ getD x i 0
-              go (passes y) s =
-                  let q : i ≡ classesAt + k = eqb-true i (classesAt + k) y in
-                  getD-set-other a1 (birthsAt + count) i birth 0 (λ z. omega arith)
-                  ∙ ap (λ (g : ℕ). getD a1 g 0) q ∙ getD-set-same w (classesAt + k) count 0 (omega (arith, long-now))
-                  ∙ sym (ap (λ (g : ℕ). getD x g 0) q
-                  ∙ getD-set-same b1 (classesAt + k) count 0
-                  (omega (arith, length-set w (birthsAt + count) (classIn v k * 65536 + suc r), long-now)))
-              go (fails y) (passes z) =
-                  let q : i ≡ birthsAt + count = eqb-true i (birthsAt + count) z in
-                  ap (λ (g : ℕ). getD a2 g 0) q
-                  ∙ getD-set-same a1 (birthsAt + count) birth 0 (omega (arith, length-set w (classesAt + k) count, long-now))
-                  ∙ birth-is ∙ sym (getD-set-same w (birthsAt + count) (classIn v k * 65536 + suc r) 0 (omega (arith, long-now)))
-                  ∙ ap (λ (g : ℕ). getD b1 g 0) (sym q)
-                  ∙ sym (getD-set-other b1 (classesAt + k) i count 0 (eqb-false i (classesAt + k) y))
-              go (fails y) (fails z) =
-                  getD-set-other a1 (birthsAt + count) i birth 0 (eqb-false i (birthsAt + count) z)
-                  ∙ getD-set-other w (classesAt + k) i count 0 (eqb-false i (classesAt + k) y)
-                  ∙ sym (getD-set-other b1 (classesAt + k) i count 0 (eqb-false i (classesAt + k) y)
-                  ∙ getD-set-other w (birthsAt + count) i (classIn v k * 65536 + suc r) 0 (eqb-false i (birthsAt + count) z))
-
-    pub splitting-next : round < 65536 → (u : List ℕ) (r : ℕ) → MemberSplit w round k old count u r → Splitting v n round old u r (k + 1)
-    splitting-next small u r (keeps h eu er) =
-        rw (eu, er) (record {
-          only = Z .only;
-          classed = Z .classed;
-          more = Z .more;
-          undone = λ i a b. Z .undone i (omega arith) b;
-          new-first = λ c a b. omega (arith, Z .new-first c a b);
-          parts = λ sheet members m q e S. rw (add-one k) (keeps-parts sheet members m q e S h);
-        })
-    splitting-next small u r (joins d p a b f eu er) =
-        rw (eu, er) (record {
-          only = outside-again (Z .only) (outside-set classesAt linesAt w (classesAt + k) p (omega arith) (omega arith));
-          classed = classed-join (Z .classed) few long-now k l (λ z. d (ap (linesHeld w) (sym z))) p b (Z .new-first p a b);
-          more = Z .more;
-          undone = λ i x y. getD-set-other w (classesAt + k) (classesAt + i) p 0 (λ z. omega arith) ∙ Z .undone i (omega arith) y;
-          new-first = λ c x y.
-              omega (arith, getD-set-other w (classesAt + k) (firstsAt + c) p 0 (λ z. omega arith), Z .new-first c x y);
-          parts = λ sheet members m q e S. rw (add-one k) (joins-parts sheet members m q e S p a b f);
-        })
-    splitting-next small u r (begins d f eu er) = rw er (record {
-      only = outside-again (Z .only) (rw eu
-          (outside-again (outside-set classesAt linesAt w (classesAt + k) count (omega arith) (omega arith))
-          (outside-again (outside-set classesAt linesAt a1 (birthsAt + count) birth (omega arith) (omega (arith, room)))
-          (outside-set classesAt linesAt a2 (firstsAt + count) k (omega arith) (omega (arith, room))))));
-      classed = rw (add-one count) (classed-new (Z .classed) k n l few room long-now (λ c a z. d (ap (linesHeld w) (sym (is-first c a z))))
-          (λ j a z. a) (omega arith) u own-new first-new classes first);
-      more = omega (arith, Z .more);
-      undone = λ i x y. classes i (omega arith) (λ z. omega arith) ∙ Z .undone i (omega arith) y;
-      new-first = λ c x y. news c x y (tested (eqb c count));
-      parts = λ sheet members m q e S. rw (add-one k, add-one count) (begins-parts sheet members m q e S small room d f u eu);
-    })
+    -- ---- it keeps its class
+    keeps-next : linesHeld w k ≡ linesHeld w (chosenIn w (classIn w k)) → Splitting v n round old w count More
+    keeps-next h = record {
+      only = Z .only;
+      classed = Z .classed;
+      more = Z .more;
+      old-births = Z .old-births;
+      new-births = Z .new-births;
+      old-chosen = Z .old-chosen;
+      kept = Z .kept;
+      came = Z .came;
+      moved = λ i a b. up i (Z .moved i a b);
+      alike = λ i a d. alike i a d (tested (eqb i k));
+      apart-old = Z .apart-old;
+      apart-new = Z .apart-new;
+    }
       where
-        room : count < 512
-        room = omega (arith, classed-spare (Z .classed) k l (λ z. d (ap (linesHeld w) (sym z))))
+        alike : (i : ℕ) → i < n → More i → Tested (eqb i k) → linesHeld v i ≡ linesHeld v (chosenIn w (classIn w i))
+        alike i a d (passes e) =
+            subst (λ (z : ℕ). linesHeld v z ≡ linesHeld v (chosenIn w (classIn w z))) (sym (eqb-true i k e))
+            (same k (chosenIn w (classIn w k)) l (model (classIn w k) (Z .classed .known k l)) h)
+        alike i a d (fails e) = Z .alike i a (back i d (eqb-false i k e))
 
-        is-first : (c : ℕ) → c < count → firstIn w c ≡ k → firstIn w (classIn w k) ≡ k
-        is-first c a z = ap (λ (g : ℕ). firstIn w (classIn w g)) (sym z) ∙ ap (firstIn w) (Z .classed .first-of c a) ∙ z
+    -- ---- it joins a part
+    module _ (d : linesHeld w k ≡ linesHeld w (chosenIn w (classIn w k)) → ⊥) (p : ℕ) (po : old ≤ p) (pc : p < count)
+        (f : PartFits w p (classIn w k) k) where
+      abbrev joined : List ℕ
+      joined = set w (classesAt + k) p
 
-        birth : ℕ
-        birth = classIn w k * 65536 + round
+      joined-here : classIn joined k ≡ p
+      joined-here = getD-set-same w (classesAt + k) p 0 (omega (arith, long-now))
 
-        a1 : List ℕ
-        a1 = set w (classesAt + k) count
+      joined-other : (i : ℕ) → (i ≡ k → ⊥) → classIn joined i ≡ classIn w i
+      joined-other i e = getD-set-other w (classesAt + k) (classesAt + i) p 0 (λ z. e (omega arith))
 
-        a2 : List ℕ
-        a2 = set a1 (birthsAt + count) birth
+      joined-birth : (c : ℕ) → c < 512 → getD joined (birthsAt + c) 0 ≡ getD w (birthsAt + c) 0
+      joined-birth c h = getD-set-other w (classesAt + k) (birthsAt + c) p 0 (λ z. omega arith)
 
-        own-new : classIn u k ≡ count
-        own-new =
-            ap (λ (g : List ℕ). classIn g k) eu
-            ∙ getD-set-other a2 (firstsAt + count) (classesAt + k) k 0 (λ z. omega arith)
-            ∙ getD-set-other a1 (birthsAt + count) (classesAt + k) birth 0 (λ z. omega arith)
-            ∙ getD-set-same w (classesAt + k) count 0 (omega (arith, long-now))
+      joined-from : (c : ℕ) → c < 512 → fromIn joined c ≡ fromIn w c
+      joined-from c h = ap (λ (x : ℕ). x / 65536) (joined-birth c h)
 
-        first-new : firstIn u count ≡ k
-        first-new =
-            ap (λ (g : List ℕ). firstIn g count) eu
-            ∙ getD-set-same a2 (firstsAt + count) k 0
-            (omega (arith, length-set a1 (birthsAt + count) birth, length-set w (classesAt + k) count, long-now, room))
+      joined-chosen : (c : ℕ) → chosenIn joined c ≡ chosenIn w c
+      joined-chosen c = getD-set-other w (classesAt + k) (chosenAt + c) p 0 (λ z. omega arith)
 
-        classes : (i : ℕ) → i < 512 → (i ≡ k → ⊥) → classIn u i ≡ classIn w i
-        classes i h y =
-            ap (λ (g : List ℕ). classIn g i) eu
-            ∙ getD-set-other a2 (firstsAt + count) (classesAt + i) k 0 (λ z. omega arith)
-            ∙ getD-set-other a1 (birthsAt + count) (classesAt + i) birth 0 (λ z. omega arith)
-            ∙ getD-set-other w (classesAt + k) (classesAt + i) count 0 (λ z. y (omega arith))
+      joins-next : Splitting v n round old joined count More
+      joins-next = record {
+        only = outside-again (Z .only) (outside-set classesAt linesAt w (classesAt + k) p (omega arith) (omega arith));
+        classed = classed-join (Z .classed) few long-now k l (λ z. d (ap (linesHeld w) (sym z))) p pc;
+        more = Z .more;
+        old-births = λ c a. joined-birth c (omega (arith, Z .more, count-few)) ∙ Z .old-births c a;
+        new-births = λ c a b.
+            let x = Z .new-births c a b in
+            (ap (λ (y : ℕ). y % 65536) (joined-birth c (omega (arith, count-few))) ∙ x .0, omega (arith, joined-from c (omega (arith, count-few)), x .1));
+        old-chosen = λ c a. joined-chosen c ∙ Z .old-chosen c a;
+        kept = λ i a. kept i a (tested (eqb i k));
+        came = λ i a. came i a (tested (eqb i k));
+        moved = λ i a b. moved i a b (tested (eqb i k));
+        alike = λ i a d. alike i a d (tested (eqb i k));
+        apart-old = λ c a b e.
+            Z .apart-old c a b (ap (linesHeld v) (sym (joined-chosen c)) ∙ e
+            ∙ ap (linesHeld v) (joined-chosen (fromIn joined c) ∙ ap (chosenIn w) (joined-from c (omega (arith, count-few)))));
+        apart-new = λ c q a b x y e z.
+            Z .apart-new c q a b x y (sym (joined-from c (omega (arith, count-few))) ∙ e ∙ joined-from q (omega (arith, count-few)))
+            (ap (linesHeld v) (sym (joined-chosen c)) ∙ z ∙ ap (linesHeld v) (joined-chosen q));
+      }
+        where
+          kept : (i : ℕ) → i < n → Tested (eqb i k) → classIn joined i < old → classIn joined i ≡ classIn v i
+          kept i a (passes e) b = absurd (omega (arith, ap (classIn joined) (eqb-true i k e), joined-here))
+          kept i a (fails e) b =
+              let x = joined-other i (eqb-false i k e) in
+              x ∙ Z .kept i a (omega arith)
 
-        first : (c : ℕ) → c < count → firstIn u c ≡ firstIn w c
-        first c h =
-            ap (λ (g : List ℕ). firstIn g c) eu
-            ∙ getD-set-other a2 (firstsAt + count) (firstsAt + c) k 0 (λ z. omega arith)
-            ∙ getD-set-other a1 (birthsAt + count) (firstsAt + c) birth 0 (λ z. omega (arith, room))
-            ∙ getD-set-other w (classesAt + k) (firstsAt + c) count 0 (λ z. omega arith)
+          came : (i : ℕ) → i < n → Tested (eqb i k) → old ≤ classIn joined i → fromIn joined (classIn joined i) ≡ classIn v i
+          came i a (passes e) b =
+              ap (λ (z : ℕ). fromIn joined (classIn joined z)) (eqb-true i k e) ∙ ap (fromIn joined) joined-here
+              ∙ joined-from p (omega (arith, count-few)) ∙ f .0 ∙ own ∙ ap (classIn v) (sym (eqb-true i k e))
+          came i a (fails e) b =
+              let x = joined-other i (eqb-false i k e) in
+              let y : classIn w i < count = Z .classed .known i a in
+              ap (fromIn joined) x ∙ joined-from (classIn w i) (omega (arith, count-few)) ∙ Z .came i a (omega arith)
 
-        news : (c : ℕ) → old ≤ c → c < count + 1 → Tested (eqb c count) → firstIn u c < k + 1
-        news c x y (passes z) = omega (arith, ap (firstIn u) (eqb-true c count z), first-new)
-        news c x y (fails z) =
-            let b : c < count = omega (arith, eqb-false c count z) in
-            omega (arith, first c b, Z .new-first c x b)
+          moved : (i : ℕ) → i < n → old ≤ classIn joined i → Tested (eqb i k) → More i
+          moved i a b (passes e) = subst More (sym (eqb-true i k e)) this
+          moved i a b (fails e) = up i (Z .moved i a (omega (arith, joined-other i (eqb-false i k e))))
+
+          alike : (i : ℕ) → i < n → More i → Tested (eqb i k) → linesHeld v i ≡ linesHeld v (chosenIn joined (classIn joined i))
+          alike i a d (passes e) =
+              subst (λ (z : ℕ). linesHeld v z ≡ linesHeld v (chosenIn joined (classIn joined z))) (sym (eqb-true i k e))
+              (same k (chosenIn w p) l (model p pc) (f .1) ∙ ap (linesHeld v) (sym (ap (chosenIn joined) joined-here ∙ joined-chosen p)))
+          alike i a d (fails e) =
+              Z .alike i a (back i d (eqb-false i k e))
+              ∙ ap (linesHeld v) (sym (ap (chosenIn joined) (joined-other i (eqb-false i k e)) ∙ joined-chosen (classIn w i)))
+
+    -- ---- it begins a part
+    module _ (small : round < 65536) (d : linesHeld w k ≡ linesHeld w (chosenIn w (classIn w k)) → ⊥)
+        (f : (p : ℕ) → old ≤ p → p < count → PartFits w p (classIn w k) k → ⊥)
+        (u : List ℕ) (eu : u ≡ set (set (set w (classesAt + k) count) (birthsAt + count) (classIn w k * 65536 + round)) (chosenAt + count) k) where
+      room : count < 512
+      room = omega (arith, classed-spare (Z .classed) k l (λ z. d (ap (linesHeld w) (sym z))))
+
+      is-chosen : (c : ℕ) → c < count → chosenIn w c ≡ k → chosenIn w (classIn w k) ≡ k
+      is-chosen c a z = ap (λ (g : ℕ). chosenIn w (classIn w g)) (sym z) ∙ ap (chosenIn w) (Z .classed .chosen-of c a) ∙ z
+
+      abbrev number : ℕ
+      number = classIn w k * 65536 + round
+
+      abbrev a1 : List ℕ
+      a1 = set w (classesAt + k) count
+
+      abbrev a2 : List ℕ
+      a2 = set a1 (birthsAt + count) number
+
+      begun-here : classIn u k ≡ count
+      begun-here =
+          ap (λ (g : List ℕ). classIn g k) eu
+          ∙ getD-set-other a2 (chosenAt + count) (classesAt + k) k 0 (λ z. omega arith)
+          ∙ getD-set-other a1 (birthsAt + count) (classesAt + k) number 0 (λ z. omega arith)
+          ∙ getD-set-same w (classesAt + k) count 0 (omega (arith, long-now))
+
+      chosen-new : chosenIn u count ≡ k
+      chosen-new =
+          ap (λ (g : List ℕ). chosenIn g count) eu
+          ∙ getD-set-same a2 (chosenAt + count) k 0
+          (omega (arith, length-set a1 (birthsAt + count) number, length-set w (classesAt + k) count, long-now, room))
+
+      begun-other : (i : ℕ) → i < 512 → (i ≡ k → ⊥) → classIn u i ≡ classIn w i
+      begun-other i h y =
+          ap (λ (g : List ℕ). classIn g i) eu
+          ∙ getD-set-other a2 (chosenAt + count) (classesAt + i) k 0 (λ z. omega arith)
+          ∙ getD-set-other a1 (birthsAt + count) (classesAt + i) number 0 (λ z. omega arith)
+          ∙ getD-set-other w (classesAt + k) (classesAt + i) count 0 (λ z. y (omega arith))
+
+      begun-chosen : (c : ℕ) → c < count → chosenIn u c ≡ chosenIn w c
+      begun-chosen c h =
+          ap (λ (g : List ℕ). chosenIn g c) eu
+          ∙ getD-set-other a2 (chosenAt + count) (chosenAt + c) k 0 (λ z. omega arith)
+          ∙ getD-set-other a1 (birthsAt + count) (chosenAt + c) number 0 (λ z. omega (arith, room))
+          ∙ getD-set-other w (classesAt + k) (chosenAt + c) count 0 (λ z. omega arith)
+
+      begun-birth : (c : ℕ) → c < count → getD u (birthsAt + c) 0 ≡ getD w (birthsAt + c) 0
+      begun-birth c h =
+          ap (λ (g : List ℕ). getD g (birthsAt + c) 0) eu
+          ∙ getD-set-other a2 (chosenAt + count) (birthsAt + c) k 0 (λ z. omega (arith, room))
+          ∙ getD-set-other a1 (birthsAt + count) (birthsAt + c) number 0 (λ z. omega arith)
+          ∙ getD-set-other w (classesAt + k) (birthsAt + c) count 0 (λ z. omega arith)
+
+      birth-new : getD u (birthsAt + count) 0 ≡ number
+      birth-new =
+          ap (λ (g : List ℕ). getD g (birthsAt + count) 0) eu
+          ∙ getD-set-other a2 (chosenAt + count) (birthsAt + count) k 0 (λ z. omega (arith, room))
+          ∙ getD-set-same a1 (birthsAt + count) number 0 (omega (arith, length-set w (classesAt + k) count, long-now, room))
+
+      begun-from : (c : ℕ) → c < count → fromIn u c ≡ fromIn w c
+      begun-from c h = ap (λ (x : ℕ). x / 65536) (begun-birth c h)
+
+      from-new : fromIn u count ≡ classIn w k
+      from-new = ap (λ (x : ℕ). x / 65536) birth-new ∙ omega arith
+
+      -- lines of begun-chosen members are as they were
+      lines-of : (c : ℕ) → c < count → linesHeld v (chosenIn u c) ≡ linesHeld v (chosenIn w c)
+      lines-of c h = ap (linesHeld v) (begun-chosen c h)
+
+      begins-next : Splitting v n round old u (count + 1) More
+      begins-next = record {
+        only = outside-again (Z .only) (rw eu
+            (outside-again (outside-set classesAt linesAt w (classesAt + k) count (omega arith) (omega arith))
+            (outside-again (outside-set classesAt linesAt a1 (birthsAt + count) number (omega arith) (omega (arith, room)))
+            (outside-set classesAt linesAt a2 (chosenAt + count) k (omega arith) (omega (arith, room))))));
+        classed = rw (add-one count) (classed-new (Z .classed) k n l few room long-now
+            (λ c a z. d (ap (linesHeld w) (sym (is-chosen c a z)))) (λ j a z. a) (omega arith) u begun-here chosen-new begun-other begun-chosen);
+        more = omega (arith, Z .more);
+        old-births = λ c a. begun-birth c (omega (arith, Z .more)) ∙ Z .old-births c a;
+        new-births = λ c a b. news c a b (tested (eqb c count));
+        old-chosen = λ c a. begun-chosen c (omega (arith, Z .more)) ∙ Z .old-chosen c a;
+        kept = λ i a. kept i a (tested (eqb i k));
+        came = λ i a. came i a (tested (eqb i k));
+        moved = λ i a b. moved i a b (tested (eqb i k));
+        alike = λ i a d. alike i a d (tested (eqb i k));
+        apart-old = λ c a b. apart-old c a b (tested (eqb c count));
+        apart-new = λ c q a b x y. apart-new c q a b x y (tested (eqb c count)) (tested (eqb q count));
+      }
+        where
+          less : (c : ℕ) → c < count + 1 → eqb c count ≡ false → c < count
+          less c h e = omega (arith, eqb-false c count e)
+
+          news : (c : ℕ) → old ≤ c → c < count + 1 → Tested (eqb c count) → (bornIn u c ≡ round) × (fromIn u c < old)
+          news c a b (passes e) =
+              let x : getD u (birthsAt + c) 0 ≡ number = ap (λ (z : ℕ). getD u (birthsAt + z) 0) (eqb-true c count e) ∙ birth-new in
+              (ap (λ (y : ℕ). y % 65536) x ∙ omega arith, omega (arith, own-old))
+          news c a b (fails e) =
+              let h : c < count = less c b e in
+              let x = Z .new-births c a h in
+              (ap (λ (y : ℕ). y % 65536) (begun-birth c h) ∙ x .0, omega (arith, begun-from c h, x .1))
+
+          kept : (i : ℕ) → i < n → Tested (eqb i k) → classIn u i < old → classIn u i ≡ classIn v i
+          kept i a (passes e) b = absurd (omega (arith, ap (classIn u) (eqb-true i k e), begun-here, Z .more))
+          kept i a (fails e) b =
+              let x = begun-other i (omega arith) (eqb-false i k e) in
+              x ∙ Z .kept i a (omega arith)
+
+          came : (i : ℕ) → i < n → Tested (eqb i k) → old ≤ classIn u i → fromIn u (classIn u i) ≡ classIn v i
+          came i a (passes e) b =
+              ap (λ (z : ℕ). fromIn u (classIn u z)) (eqb-true i k e) ∙ ap (fromIn u) begun-here ∙ from-new ∙ own
+              ∙ ap (classIn v) (sym (eqb-true i k e))
+          came i a (fails e) b =
+              let x = begun-other i (omega arith) (eqb-false i k e) in
+              ap (fromIn u) x ∙ begun-from (classIn w i) (Z .classed .known i a) ∙ Z .came i a (omega arith)
+
+          moved : (i : ℕ) → i < n → old ≤ classIn u i → Tested (eqb i k) → More i
+          moved i a b (passes e) = subst More (sym (eqb-true i k e)) this
+          moved i a b (fails e) = up i (Z .moved i a (omega (arith, begun-other i (omega arith) (eqb-false i k e))))
+
+          alike : (i : ℕ) → i < n → More i → Tested (eqb i k) → linesHeld v i ≡ linesHeld v (chosenIn u (classIn u i))
+          alike i a d (passes e) =
+              subst (λ (z : ℕ). linesHeld v z ≡ linesHeld v (chosenIn u (classIn u z))) (sym (eqb-true i k e))
+              (ap (linesHeld v) (sym (ap (chosenIn u) begun-here ∙ chosen-new)))
+          alike i a d (fails e) =
+              Z .alike i a (back i d (eqb-false i k e))
+              ∙ sym (ap (λ (z : ℕ). linesHeld v (chosenIn u z)) (begun-other i (omega arith) (eqb-false i k e))
+              ∙ lines-of (classIn w i) (Z .classed .known i a))
+
+          -- the lines of the member that begins the part
+          new-lines : (c : ℕ) → eqb c count ≡ true → linesHeld v (chosenIn u c) ≡ linesHeld v k
+          new-lines c e = ap (linesHeld v) (ap (chosenIn u) (eqb-true c count e) ∙ chosen-new)
+
+          apart-old : (c : ℕ) → old ≤ c → c < count + 1 → Tested (eqb c count)
+              → linesHeld v (chosenIn u c) ≡ linesHeld v (chosenIn u (fromIn u c)) → ⊥
+          apart-old c a b (passes e) z =
+              let o : classIn w k < count = Z .classed .known k l in
+              let x : chosenIn u (fromIn u c) ≡ chosenIn w (classIn w k) =
+              ap (λ (g : ℕ). chosenIn u (fromIn u g)) (eqb-true c count e) ∙ ap (chosenIn u) from-new ∙ begun-chosen (classIn w k) o in
+              d (same-back k (chosenIn w (classIn w k)) l (model (classIn w k) o) (sym (new-lines c e) ∙ z ∙ ap (linesHeld v) x))
+          apart-old c a b (fails e) z =
+              let h : c < count = less c b e in
+              let g : fromIn w c < old = Z .new-births c a h .1 in
+              Z .apart-old c a h (sym (lines-of c h) ∙ z ∙ ap (λ (q : ℕ). linesHeld v (chosenIn u q)) (begun-from c h)
+              ∙ lines-of (fromIn w c) (omega (arith, Z .more)))
+
+          -- a part that was there has begun-other lines than the one that is begun
+          differs : (p : ℕ) → old ≤ p → p < count → fromIn w p ≡ classIn w k → linesHeld v k ≡ linesHeld v (chosenIn w p) → ⊥
+          differs p a b e z = f p a b (e, same-back k (chosenIn w p) l (model p b) z)
+
+          apart-new : (c q : ℕ) → old ≤ c → c < count + 1 → old ≤ q → q < count + 1 → Tested (eqb c count) → Tested (eqb q count)
+              → fromIn u c ≡ fromIn u q → linesHeld v (chosenIn u c) ≡ linesHeld v (chosenIn u q) → c ≡ q
+          apart-new c q a b x y (passes e) (passes g) h z = eqb-true c count e ∙ sym (eqb-true q count g)
+          apart-new c q a b x y (passes e) (fails g) h z =
+              let m : q < count = less q y g in
+              absurd (differs q x m (sym (begun-from q m) ∙ sym h ∙ ap (fromIn u) (eqb-true c count e) ∙ from-new)
+              (sym (new-lines c e) ∙ z ∙ lines-of q m))
+          apart-new c q a b x y (fails e) (passes g) h z =
+              let m : c < count = less c b e in
+              absurd (differs c a m (sym (begun-from c m) ∙ h ∙ ap (fromIn u) (eqb-true q count g) ∙ from-new)
+              (sym (new-lines q g) ∙ sym z ∙ lines-of c m))
+          apart-new c q a b x y (fails e) (fails g) h z =
+              let m : c < count = less c b e in
+              let o : q < count = less q y g in
+              Z .apart-new c q a m x o (sym (begun-from c m) ∙ h ∙ begun-from q o) (sym (lines-of c m) ∙ z ∙ lines-of q o)
+
+    pub splitting-next : round < 65536 → (u : List ℕ) (r : ℕ) → MemberSplit w round k old count u r → Splitting v n round old u r More
+    splitting-next small u r (keeps h eu er) = rw (eu, er) (keeps-next h)
+    splitting-next small u r (joins d p a b f eu er) = rw (eu, er) (joins-next d p a b f)
+    splitting-next small u r (begins d f eu er) = rw er (begins-next small d f u eu)

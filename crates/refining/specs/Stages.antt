@@ -11,16 +11,12 @@ use Rattle.sheets.specs.Sheet.{Configuration, Sheet}
 use Rattle.sheets.specs.WellFormed.{WellFormed}
 use Rattle.moves.specs.Orders.{configurationOrder}
 use Rattle.held_set.specs.HeldSet.{SetHeld}
-use Rattle.refinement.specs.Rounds.{round-refl, round-sym, round-trans}
 use Rattle.comparison.specs.Classes.{classOf}
-use Rattle.comparison.specs.SheetTransitions.{transitions}
-use Rattle.comparison.specs.SheetMoves.{lawful}
 use Rattle.comparison.specs.RoundLaws.{ClosedList, Sharing}
 use Rattle.splitting.specs.ClassesPresent.{Present, present-alike}
 use Rattle.splitting.specs.ClassPlaces.{TogetherAt, PresentAt, places-next, places-sharing}
 use Rattle.splitting.specs.MemberLines.{linesOf}
 use Rattle.splitting.specs.HeldRounds.{classIn, classesIn, bornIn, fromIn, held-count, held-at, classes-less}
-use Rattle.splitting.specs.HeldParts.{PartsHeld}
 use Rattle.lining.specs.KeptMoves.{noMove}
 use Rattle.lining.specs.LinedSets.{MemberLined}
 use Rattle.refining.specs.ClassedPlaces.{Classed, classed-count}
@@ -68,27 +64,6 @@ pub record Stage (sheet : Sheet) (set : List Configuration) (v : List ℕ) (n m 
   pub lined : (i : ℕ) → i < n → MemberLined sheet set (classesIn v n) v i
 
 module _ {sheet : Sheet} {set : List Configuration} {v : List ℕ} {n m r old : ℕ} (S : Stage sheet set v n m r old) where
-  pub stage-reflexive : (i : ℕ) → i < length set → TogetherHeld sheet set (suc r) i i
-  stage-reflexive i l = round-refl (transitions sheet) (lawful sheet (S .ready .wf)) (suc r) (getD set i nobody)
-
-  pub stage-symmetric : (i j : ℕ) → i < length set → j < length set
-      → TogetherHeld sheet set (suc r) i j → TogetherHeld sheet set (suc r) j i
-  stage-symmetric i j l h = round-sym (transitions sheet) (lawful sheet (S .ready .wf)) (suc r) (getD set i nobody) (getD set j nobody)
-
-  pub stage-transitive : (i j k : ℕ) → i < length set → j < length set → k < length set
-      → TogetherHeld sheet set (suc r) i j → TogetherHeld sheet set (suc r) j k → TogetherHeld sheet set (suc r) i k
-  stage-transitive i j k l h g =
-      round-trans (transitions sheet) (lawful sheet (S .ready .wf)) (suc r) (getD set i nobody) (getD set j nobody) (getD set k nobody)
-
-  pub stage-down : (i j : ℕ) → i < length set → j < length set → TogetherHeld sheet set (suc r) i j → TogetherHeld sheet set r i j
-  stage-down i j l h t = t .0
-
-  -- the first k places have their classes of the next round in w, and there are `total` now
-  abbrev pub StageParts : List ℕ → ℕ → ℕ → Type 0
-  StageParts w total k =
-      PartsHeld (length set) (TogetherHeld sheet set) r stage-reflexive stage-symmetric stage-transitive stage-down
-      (fromIn v) (bornIn v) old (classIn v) (S .present) w total k
-
   pub stage-count : length set ≡ n
   stage-count = held-count sheet set v n m (S .ready .held)
 

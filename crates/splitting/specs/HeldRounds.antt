@@ -57,8 +57,8 @@ abbrev pub birthsAt : ℕ
 birthsAt = 11264
 
 -- for each part of a class: the place of its first member
-abbrev pub firstsAt : ℕ
-firstsAt = 11776
+abbrev pub chosenAt : ℕ
+chosenAt = 11776
 
 -- the lines of all members: those of the member at place i begin as far from here as its moves do from `movesAt`
 abbrev pub linesAt : ℕ

@@ -5,8 +5,5 @@ pub mod MemberLines
 pub mod DominatingMoves
 pub mod ClassesPresent
 pub mod SetClasses
-pub mod SplitParts
-pub mod SplitWrites
 pub mod ClassPlaces
 pub mod HeldRounds
-pub mod HeldParts

@@ -9,7 +9,7 @@ use lib.Pow.{shr-shr}
 use lib.Bits.{bitAnd, bitOr, and-step, or-step, and-shr, or-shr, and-le-r}
 
 -- digit i of a set's number: 1 where fact i is in the set, 0 where it is not
-pub digit : ℕ → ℕ → ℕ
+unfoldable pub digit : ℕ → ℕ → ℕ
 digit n i = n / 2 ^ i % 2
 
 -- every fact of a is in b: b includes a
@@ -30,15 +30,15 @@ pub digit-or : (a b i : ℕ) → digit (bitOr a b) i ≡ max (digit a i) (digit 
 unfolding digit
 digit-or a b i = ap (λ (n : ℕ). n % 2) (or-shr a b i) ∙ or-last (a / 2 ^ i) (b / 2 ^ i)
 
-digit-half : (n i : ℕ) → digit (n / 2) i ≡ digit n (suc i)
+pub digit-half : (n i : ℕ) → digit (n / 2) i ≡ digit n (suc i)
 unfolding digit
 digit-half n i = ap (λ (m : ℕ). m % 2) (shr-shr n 1 i ∙ ap (λ (k : ℕ). n / 2 ^ k) (one-add i))
 
-digit-zero : (n : ℕ) → digit n 0 ≡ n % 2
+pub digit-zero : (n : ℕ) → digit n 0 ≡ n % 2
 unfolding digit
 digit-zero n = omega arith
 
-zero-digit : (i : ℕ) → digit 0 i ≡ 0
+pub zero-digit : (i : ℕ) → digit 0 i ≡ 0
 unfolding digit
 zero-digit i = ap (λ (n : ℕ). n % 2) (zero-div (2 ^ i))
 

@@ -1,3 +1,4 @@
 pub mod ApartClasses
 pub mod NumberedPlaces
+pub mod FirstMembers
 pub mod ReportClasses

@@ -13,8 +13,8 @@ use borrow.Author.Tests.{eqb-true, eqb-false}
 use Rattle.lists.specs.Tests.{Tested, tested, passes, fails}
 use Rattle.lists.specs.Frames.{SameOutside, outside-same, outside-set, outside-again}
 use Rattle.work_places.specs.WorkPlaces.{workEnd}
-use Rattle.splitting.specs.HeldRounds.{lineTotalsAt, classesAt, birthsAt, firstsAt, classIn}
-use Rattle.refining.specs.ClassedPlaces.{firstIn, Classed, classed-count, first-or-later}
+use Rattle.splitting.specs.HeldRounds.{lineTotalsAt, classesAt, birthsAt, chosenAt, classIn}
+use Rattle.refining.specs.ClassedPlaces.{chosenIn, Classed, classed-count}
 
 -- the number kept for class c
 abbrev pub numberIn : List ℕ → ℕ → ℕ
@@ -22,20 +22,20 @@ numberIn w c = getD w (lineTotalsAt + c) 0
 
 -- what is stored for the member at place i
 pub data NumberOne (w : List ℕ) (i count : ℕ) (v : List ℕ) (r : ℕ) : Type 0 where
-  first-one : firstIn w (classIn w i) ≡ i → v ≡ set (set w (lineTotalsAt + classIn w i) count) (classesAt + i) count → r ≡ count + 1
+  first-one : chosenIn w (classIn w i) ≡ i → v ≡ set (set w (lineTotalsAt + classIn w i) count) (classesAt + i) count → r ≡ count + 1
       → NumberOne w i count v r
-  later-one : (firstIn w (classIn w i) ≡ i → ⊥) → v ≡ set w (classesAt + i) (numberIn w (classIn w i)) → r ≡ count → NumberOne w i count v r
+  later-one : (chosenIn w (classIn w i) ≡ i → ⊥) → v ≡ set w (classesAt + i) (numberIn w (classIn w i)) → r ≡ count → NumberOne w i count v r
 
 -- the same, with its class c as it was read
-pub number-first : (w : List ℕ) (i count c : ℕ) → c ≡ classIn w i → firstIn w c ≡ i
+pub number-first : (w : List ℕ) (i count c : ℕ) → c ≡ classIn w i → chosenIn w c ≡ i
     → NumberOne w i count (set (set w (lineTotalsAt + c) count) (classesAt + i) count) (count + 1)
 number-first w i count c e f =
-    first-one (ap (firstIn w) (sym e) ∙ f) (ap (λ (z : ℕ). set (set w (lineTotalsAt + z) count) (classesAt + i) count) e) refl
+    first-one (ap (chosenIn w) (sym e) ∙ f) (ap (λ (z : ℕ). set (set w (lineTotalsAt + z) count) (classesAt + i) count) e) refl
 
-pub number-later : (w : List ℕ) (i count c : ℕ) → c ≡ classIn w i → (firstIn w c ≡ i → ⊥)
+pub number-later : (w : List ℕ) (i count c : ℕ) → c ≡ classIn w i → (chosenIn w c ≡ i → ⊥)
     → NumberOne w i count (set w (classesAt + i) (numberIn w c)) count
 number-later w i count c e f =
-    later-one (λ z. f (ap (firstIn w) e ∙ z)) (ap (λ (z : ℕ). set w (classesAt + i) (numberIn w z)) e) refl
+    later-one (λ z. f (ap (chosenIn w) e ∙ z)) (ap (λ (z : ℕ). set w (classesAt + i) (numberIn w z)) e) refl
 
 -- the class of place j is one of an earlier place, or the least number that no earlier place has
 abbrev pub AgainOrNext : List ℕ → ℕ → Type 0
@@ -66,7 +66,19 @@ numbering-first v n = record {
   by-first = λ j h. absurd (omega arith);
 }
 
-module _ (v : List ℕ) (n classes : ℕ) (C : Classed v n classes) (small : n ≤ 512) (long : workEnd ≤ length v)
+-- the chosen member of each class is its first one
+abbrev pub FirstChosen : List ℕ → ℕ → Type 0
+FirstChosen v n = (i : ℕ) → i < n → chosenIn v (classIn v i) ≤ i
+
+-- a place is the first of its class, or a place before it is
+first-or-later : (v : List ℕ) (n : ℕ) → FirstChosen v n → (i : ℕ) → i < n → (chosenIn v (classIn v i) ≡ i) ⊎ (chosenIn v (classIn v i) < i)
+first-or-later v n F i l = go (tested (eqb (chosenIn v (classIn v i)) i))
+  where
+    go : Tested (eqb (chosenIn v (classIn v i)) i) → (chosenIn v (classIn v i) ≡ i) ⊎ (chosenIn v (classIn v i) < i)
+    go (passes e) = inl (eqb-true (chosenIn v (classIn v i)) i e)
+    go (fails e) = inr (omega (arith, eqb-false (chosenIn v (classIn v i)) i e, F i l))
+
+module _ (v : List ℕ) (n classes : ℕ) (C : Classed v n classes) (F : FirstChosen v n) (small : n ≤ 512) (long : workEnd ≤ length v)
     (i : ℕ) (l : i < n) (w : List ℕ) (count : ℕ) (N : Numbering v n i w count) where
   own : classIn w i ≡ classIn v i
   own = N .undone i (omega arith) l
@@ -78,8 +90,8 @@ module _ (v : List ℕ) (n classes : ℕ) (C : Classed v n classes) (small : n �
   numbering-class = omega (arith, own, own-small)
 
   -- first members are left alone
-  first-same : (c : ℕ) → firstIn w c ≡ firstIn v c
-  first-same c = N .only .at (firstsAt + c) (inr (omega arith))
+  first-same : (c : ℕ) → chosenIn w c ≡ chosenIn v c
+  first-same c = N .only .at (chosenAt + c) (inr (omega arith))
 
   long-now : workEnd ≤ length w
   long-now = omega (arith, N .only .long)
@@ -180,7 +192,7 @@ module _ (v : List ℕ) (n classes : ℕ) (C : Classed v n classes) (small : n �
 
       -- a class that was met is another one
       met : (j : ℕ) → j < i → classIn v j ≡ classIn w i → ⊥
-      met j h g = omega (arith, C .first-least j (omega arith), ap (firstIn v) g, first-same (classIn w i), e)
+      met j h g = omega (arith, F j (omega arith), ap (chosenIn v) g, first-same (classIn w i), e)
 
       kept : (j : ℕ) → j < i → numberIn x (classIn v j) ≡ numberIn w (classIn v j)
       kept j h =
@@ -207,7 +219,7 @@ module _ (v : List ℕ) (n classes : ℕ) (C : Classed v n classes) (small : n �
       all : (k : ℕ) → k < classIn x i → (h : ℕ) × (h < i) × (classIn x h ≡ k)
       all k h = let y = N .onto k (omega (arith, here)) in (y .0, y .1, lower (y .0) (y .1) ∙ y .2)
   numbering-next u r (later-one d eu er) =
-      rw er (subst (λ (z : List ℕ). Numbering v n (i + 1) z count) (sym eu) (go (first-or-later C i l)))
+      rw er (subst (λ (z : List ℕ). Numbering v n (i + 1) z count) (sym eu) (go (first-or-later v n F i l)))
     where
       k : ℕ
       k = numberIn w (classIn w i)
@@ -215,8 +227,8 @@ module _ (v : List ℕ) (n classes : ℕ) (C : Classed v n classes) (small : n �
       x : List ℕ
       x = set w (classesAt + i) k
 
-      go : (firstIn v (classIn v i) ≡ i) ⊎ (firstIn v (classIn v i) < i) → Numbering v n (i + 1) x count
-      go (inl e) = absurd (d (first-same (classIn w i) ∙ ap (firstIn v) own ∙ e))
+      go : (chosenIn v (classIn v i) ≡ i) ⊎ (chosenIn v (classIn v i) < i) → Numbering v n (i + 1) x count
+      go (inl e) = absurd (d (first-same (classIn w i) ∙ ap (chosenIn v) own ∙ e))
       go (inr h) =
           extended x k count (outside-set lineTotalsAt birthsAt w (classesAt + i) k (omega arith) (omega arith)) here others
           (λ j m. numbers (classIn v j) (omega (arith, C .known j (omega arith), classed-count C)))
@@ -226,10 +238,10 @@ module _ (v : List ℕ) (n classes : ℕ) (C : Classed v n classes) (small : n �
           (inl (f, h, others f (λ z. omega arith) (omega arith) ∙ sym is ∙ sym here))
         where
           f : ℕ
-          f = firstIn v (classIn v i)
+          f = chosenIn v (classIn v i)
 
           of : classIn v f ≡ classIn v i
-          of = C .first-of (classIn v i) (C .known i l)
+          of = C .chosen-of (classIn v i) (C .known i l)
 
           is : k ≡ classIn w f
           is = ap (numberIn w) (own ∙ sym of) ∙ N .listed f h

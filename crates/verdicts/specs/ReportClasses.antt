@@ -10,7 +10,7 @@ use lib.Seq.{ext-getD}
 use lib.Dec.{eqb, ltb}
 use borrow.Author.Tests.{eqb-true, eq-eqb, ltb-true, ltb-false}
 use Rattle.lists.specs.Tests.{Tested, tested, passes, fails}
-use Rattle.lists.specs.Frames.{SameOutside}
+use Rattle.lists.specs.Frames.{SameOutside, outside-then}
 use Rattle.lists.specs.Tables.{tabulate-length, tabulate-at}
 use Rattle.sheets.specs.Sheet.{Configuration, Sheet}
 use Rattle.work_places.specs.WorkPlaces.{workEnd}
@@ -21,11 +21,12 @@ use Rattle.comparison.specs.RoundLaws.{share-round}
 use Rattle.comparison.specs.ResultLaws.{classes-by-first, rounds-at}
 use Rattle.splitting.specs.SetClasses.{present-numbered}
 use Rattle.splitting.specs.ClassPlaces.{places-present, places-sharing}
-use Rattle.splitting.specs.HeldRounds.{lineTotalsAt, birthsAt, classIn, classesIn, bornIn, fromIn, same-set-high, held-same, held-in, held-count, held-place, share-held}
+use Rattle.splitting.specs.HeldRounds.{lineTotalsAt, linesAt, classIn, classesIn, bornIn, fromIn, same-set-high, held-same, held-in, held-count, held-place, share-held}
 use Rattle.refining.specs.ClassedPlaces.{Classed}
 use Rattle.refining.specs.Stages.{nobody}
-use Rattle.refining.specs.RoundsHeld.{RoundsHeld}
+use Rattle.refining.specs.RoundsHeld.{RoundsHeld, rounds-held-same}
 use Rattle.verdicts.specs.NumberedPlaces.{Numbering}
+use Rattle.verdicts.specs.FirstMembers.{FirstsFound, firsts-classed}
 
 -- what numbering classes needs
 pub record NumberReady (w : List ℕ) (n : ℕ) : Type 0 where
@@ -34,9 +35,9 @@ pub record NumberReady (w : List ℕ) (n : ℕ) : Type 0 where
   pub few : n ≤ 512
   pub long : workEnd ≤ length w
 
--- w is v with classes numbered by first member; only the kept numbers and the classes are changed
+-- w is v with classes numbered by first member; only the kept numbers, the classes and the chosen members are changed
 pub record Renumbered (v : List ℕ) (n : ℕ) (w : List ℕ) : Type 0 where
-  pub only : SameOutside lineTotalsAt birthsAt v w
+  pub only : SameOutside lineTotalsAt linesAt v w
   pub numbers : (sheet : Sheet) (set : List Configuration) (m r count : ℕ) → RoundsHeld sheet set v n m r count
       → SetHeld sheet set w n m × (classesIn w n ≡ classes sheet set r) × (getD (rounds sheet set) r [] ≡ classes sheet set r)
 
@@ -145,13 +146,21 @@ module _ (v : List ℕ) (n : ℕ) (w : List ℕ) (total : ℕ) (N : Numbering v 
         let l : i < n = omega (arith, tabulate-length (classIn w) n) in
         tabulate-at (classIn w) n i 0 l ∙ numbers-are i l)
 
-  pub renumbered : Renumbered v n w
-  renumbered = record {
-    only = N .only;
-    numbers = λ sheet set m r count H. (
-      held-same sheet set v w n m (H .ready .held) (same-set-high (omega arith) (N .only)),
-      classes-are sheet set m r count H,
-      rounds-at sheet set (H .ready .wf) (H .ready .closed) (omega (arith, held-count sheet set v n m (H .ready .held), H .ready .some)) r
-          (omega (arith, H .last)),
-    );
+  numbers-now : (sheet : Sheet) (set : List Configuration) (m r count : ℕ) → RoundsHeld sheet set v n m r count
+      → SetHeld sheet set w n m × (classesIn w n ≡ classes sheet set r) × (getD (rounds sheet set) r [] ≡ classes sheet set r)
+  numbers-now sheet set m r count H = (
+    held-same sheet set v w n m (H .ready .held) (same-set-high (omega arith) (N .only)),
+    classes-are sheet set m r count H,
+    rounds-at sheet set (H .ready .wf) (H .ready .closed) (omega (arith, held-count sheet set v n m (H .ready .held), H .ready .some)) r
+        (omega (arith, H .last)),
+  )
+
+  -- v came from u by choosing first members
+  pub renumbered : (u : List ℕ) → FirstsFound u n 0 v → Renumbered u n w
+  renumbered u F = record {
+    only = outside-then (F .only) (N .only) lineTotalsAt linesAt (omega arith) (omega arith) (omega arith) (omega arith);
+    numbers = λ sheet set m r count H.
+        numbers-now sheet set m r count
+        (rounds-held-same H (same-set-high (omega arith) (F .only)) (λ k h l. F .only .at k (inl (omega arith)))
+        (firsts-classed F (H .ready .held .few .0) (H .classed)));
   }

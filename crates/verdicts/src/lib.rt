@@ -2,15 +2,16 @@
 use lining::CLASSES;
 use lining::LINE_TOTALS;
 use refining::BIRTHS;
-use refining::FIRSTS;
+use refining::CHOSEN;
 ghost use mathlib.Core.Path.{_≡_};
-ghost use Prim.Native.Nat.{_≤_, _<_, min, max};
+ghost use Prim.Native.Nat.{ℕ, _≤_, _<_, min, max};
 ghost use lib.ListN.{length};
 ghost use Rattle.work_places.specs.WorkPlaces.{workEnd};
 ghost use Rattle.splitting.specs.ClassBirths.{apart};
 ghost use Rattle.splitting.specs.HeldRounds.{classIn, bornIn, fromIn};
 ghost use Rattle.verdicts.specs.ApartClasses.{Falls};
 ghost use Rattle.verdicts.specs.NumberedPlaces.{NumberOne};
+ghost use Rattle.verdicts.specs.FirstMembers.{FirstsFound};
 ghost use Rattle.verdicts.specs.ReportClasses.{NumberReady, Renumbered};
 
 fn lesser(a: u32, b: u32) -> u32
@@ -63,7 +64,7 @@ fn number_class(w: &mut [u32], i: usize, count: usize) -> usize
     ensures { λ r. ⌜ NumberOne (now (w .entry)) i count (now (w .exit)) r ⌝ }
 {
     let c = lining::class_at(w, i) as usize;
-    if w[FIRSTS + c] == i as u32 {
+    if w[CHOSEN + c] == i as u32 {
         w[LINE_TOTALS + c] = count as u32;
         w[CLASSES + i] = count as u32;
         return count + 1;
@@ -72,11 +73,25 @@ fn number_class(w: &mut [u32], i: usize, count: usize) -> usize
     count
 }
 
+// The first member of each class chosen.
+fn choose_first(w: &mut [u32], n: usize)
+    requires { ⌜ (n ≤ 512) × (workEnd ≤ length (now w)) × ((i : ℕ) → i < n → classIn (now w) i < 512) ⌝ }
+    ensures { λ _. ⌜ FirstsFound (now (w .entry)) n 0 (now (w .exit)) ⌝ }
+{
+    let mut i = n;
+    while 0 < i {
+        i -= 1;
+        let c = lining::class_at(w, i);
+        w[CHOSEN + c as usize] = i as u32;
+    }
+}
+
 // Classes by first member in place of those that keep their numbers.
 pub fn number_classes(w: &mut [u32], n: usize)
     requires { ⌜ NumberReady (now w) n ⌝ }
     ensures { λ _. ⌜ Renumbered (now (w .entry)) n (now (w .exit)) ⌝ }
 {
+    choose_first(w, n);
     let mut count: usize = 0;
     let mut i: usize = 0;
     while i < n {

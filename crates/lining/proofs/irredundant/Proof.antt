@@ -86,6 +86,7 @@ returns-2 c =
     judged-next w (g .n) (g .first) (g .j) (getD w (dominatorsAt + g .first + g .j) 0) (getD w (movesAt + g .first + g .j) 0 % 65536) refl refl
     (b .pre .kept (g .j) (omega arith)) (s .result) (s .ensures) (c .before .before .before .if1 .left) (c .before .look-from .result)
     (c .dominator-from .result) (c .before .look-from .ensures) (c .dominator-from .ensures) (omega (arith, b .pre .span, b .pre .long))
+    (omega (arith, b .pre .span))
 
 pub irredundant-spec : {M : Type 1} → statement M
 irredundant-spec =

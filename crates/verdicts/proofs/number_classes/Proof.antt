@@ -1,7 +1,9 @@
--- `number_classes` goes from place to place: numbers go up by first member, and tell apart what the classes told apart.
+-- `number_classes` chooses first members, then goes from place to place: numbers go up by first member, and tell apart what the classes told apart.
 use lib.ListN.{length}
 use Rattle.verdicts.specs.NumberedPlaces.{Numbering, numbering-first, numbering-class, numbering-next}
+use Rattle.verdicts.specs.FirstMembers.{firsts-classed, firsts-chosen}
 use Rattle.verdicts.specs.ReportClasses.{renumbered}
+use Rattle.refining.specs.ClassedPlaces.{classed-count}
 use mathlib.Core.Path.{subst}
 use borrow.Author.Needs.{needs}
 use native.Mathlib.Omega.{arith}
@@ -11,6 +13,7 @@ use Rattle.verdicts.proofs.number_classes.Statement.{statement}
 use Rattle.verdicts.proofs.number_classes.Tie as tie
 use Rattle.verdicts.proofs.number_classes.Reads as reads
 use Rattle.verdicts.proofs.number_classes.Lts as lts
+use Rattle.verdicts.proofs.choose_first.Reads as choose-first-reads
 use Rattle.verdicts.proofs.number_class.Reads as number-class-reads
 
 abbrev Inv-loop : tie.InvT-loop
@@ -19,20 +22,27 @@ Inv-loop w₀ n count₀ i₀ w count i = (i ≤ n) × (length w ≡ length w₀
 abbrev μ-loop : tie.MeasureT-loop
 μ-loop w₀ n count₀ i₀ w count i = n - i
 
+choose-first-requires : tie.Need-choose-first-requires Inv-loop μ-loop
+choose-first-requires c κs =
+    let p = c .before .before .pre in
+    (p .few, p .long, (λ i l. omega (arith, p .classed .known i l, classed-count (p .classed), p .few)))
+
 loop-holds : tie.Need-loop-holds Inv-loop μ-loop
-loop-holds c = (omega arith, refl, numbering-first (c .before .args .w .now) (c .before .args .n))
+loop-holds c = (omega arith, refl, numbering-first (c .before .before .choose-first .last .0) (c .before .before .before .before .before .args .n))
 
 number-class-requires : tie.Need-number-class-requires Inv-loop μ-loop
 number-class-requires c κs =
-    let b = c .before .before .before .before in
+    let b = c .before .before .before .before .before .before .before .before in
     let g = b .args in
     let p = b .pre in
     let l = c .before .before .loop in
+    let h = c .before .before .before .before .before .choose-first in
     let N = l .inv .2 in (
       omega (arith, p .few),
       omega (arith, p .few, N .few),
-      numbering-class (g .w .now) (g .n) (p .count) (p .classed) (p .few) (p .long) (l .i) (c .before .loop-test .taken) (l .w) (l .count) N,
-      omega (arith, p .long, l .inv .1),
+      numbering-class (h .last .0) (g .n) (p .count) (firsts-classed (h .ensures) (p .few) (p .classed)) (firsts-chosen (h .ensures) (p .few))
+          (p .few) (omega (arith, p .long, h .ensures .only .long)) (l .i) (c .before .loop-test .taken) (l .w) (l .count) N,
+      omega (arith, p .long, h .ensures .only .long, l .inv .1),
     )
 
 add-i : tie.Need-add-i Inv-loop μ-loop
@@ -43,12 +53,14 @@ loop-less c = search needs
 
 loop-again : tie.Need-loop-again Inv-loop μ-loop
 loop-again c =
-    let b = c .before .before .before .before .before .before .before in
+    let b = c .before .before .before .before .before .before .before .before .before .before .before in
     let g = b .args in
     let p = b .pre in
     let l = c .before .before .before .before .before .loop in
+    let h = c .before .before .before .before .before .before .before .before .choose-first in
     let s = c .before .before .number-class in
-    let x = numbering-next (g .w .now) (g .n) (p .count) (p .classed) (p .few) (p .long) (l .i)
+    let x = numbering-next (h .last .0) (g .n) (p .count) (firsts-classed (h .ensures) (p .few) (p .classed))
+    (firsts-chosen (h .ensures) (p .few)) (p .few) (omega (arith, p .long, h .ensures .only .long)) (l .i)
     (c .before .before .before .before .loop-test .taken)
     (l .w) (l .count) (l .inv .2) (s .last .0) (s .result) (s .ensures) in
     (omega arith, x .only .long, x)
@@ -58,10 +70,12 @@ same-length c = search needs
 
 returns : tie.Need-returns Inv-loop μ-loop
 returns c =
-    let g = c .before .before .before .args in
+    let g = c .before .before .before .before .before .before .before .args in
     let l = c .before .loop in
+    let h = c .before .before .before .before .choose-first in
     let e : l .i ≡ g .n = omega arith in
-    renumbered (g .w .now) (g .n) (l .w) (l .count) (subst (λ (z : ℕ). Numbering (g .w .now) (g .n) z (l .w) (l .count)) e (l .inv .2))
+    renumbered (h .last .0) (g .n) (l .w) (l .count) (subst (λ (z : ℕ). Numbering (h .last .0) (g .n) z (l .w) (l .count)) e (l .inv .2))
+    (g .w .now) (h .ensures)
 
 pub number-classes-spec : {M : Type 1} → statement M
 number-classes-spec =
@@ -69,6 +83,7 @@ number-classes-spec =
     (tie.spec
     Inv-loop
     μ-loop
+    choose-first-requires
     loop-holds
     number-class-requires
     add-i

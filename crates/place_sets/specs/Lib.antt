@@ -1,0 +1,5 @@
+pub mod PlaceSets
+pub mod DigitLaws
+pub mod PlaceLaws
+pub mod Uniting
+pub mod Listing
