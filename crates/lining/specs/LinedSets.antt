@@ -28,7 +28,7 @@ pub record MemberLined (sheet : Sheet) (set : List Configuration) (numbers w : L
   pub lines : numbersIn w (linesAt + firstMove w i) (linesAt + firstMove w i + lineTotal w i) ≡ linesOf sheet set numbers (memberAt w i)
 
 -- The lines of the member at place i stand in the slice, its moves are judged, and it is in the sets of those that they look at.
-pub record MemberReady (sheet : Sheet) (set : List Configuration) (numbers w ws : List ℕ) (width n i : ℕ) : Type 0 where
+pub record LinesKept (sheet : Sheet) (set : List Configuration) (numbers w ws : List ℕ) (width n i : ℕ) : Type 0 where
   pub lined : MemberLined sheet set numbers w i
   pub stands : (j : ℕ) → j < moveTotal w i → Stands w (firstMove w i) j
   pub watched : (j : ℕ) → j < moveTotal w i → MoveWatched w ws width n (firstMove w i) j i
@@ -45,7 +45,7 @@ pub record SetLined (w ws : List ℕ) (width n : ℕ) (list : List ℕ) (k : ℕ
   pub lines : (sheet : Sheet) (set : List Configuration) (numbers : List ℕ) (m r : ℕ) → RoundHeld sheet set numbers w n m r
       → DominatorsKept sheet set w n numbers
       → DominatorsKept sheet set v n numbers
-      × ((i : ℕ) → i < n → InList list k i ⊎ MemberReady sheet set numbers w ws width n i → MemberReady sheet set numbers v vs width n i)
+      × ((i : ℕ) → i < n → InList list k i ⊎ LinesKept sheet set numbers w ws width n i → LinesKept sheet set numbers v vs width n i)
 
 pub set-lined-first : (w ws : List ℕ) (width n : ℕ) (list : List ℕ) → Shape w n → SetLined w ws width n list 0 w ws
 set-lined-first w ws width n list S = record {
@@ -56,7 +56,7 @@ set-lined-first w ws width n list S = record {
 }
   where
     go : (sheet : Sheet) (set : List Configuration) (numbers : List ℕ) (i : ℕ)
-        → InList list 0 i ⊎ MemberReady sheet set numbers w ws width n i → MemberReady sheet set numbers w ws width n i
+        → InList list 0 i ⊎ LinesKept sheet set numbers w ws width n i → LinesKept sheet set numbers w ws width n i
     go sheet set numbers i (inl x) = absurd (omega (arith, x .1))
     go sheet set numbers i (inr x) = x
 
@@ -220,11 +220,11 @@ module _ (w ws : List ℕ) (width n : ℕ) (list : List ℕ) (k : ℕ) (v vs : L
 
       go : (sheet : Sheet) (set : List Configuration) (numbers : List ℕ) (m r : ℕ) → RoundHeld sheet set numbers v n m r
           → DominatorsKept sheet set v n numbers
-          → ((p : ℕ) → p < n → InList list k p ⊎ MemberReady sheet set numbers w ws width n p → MemberReady sheet set numbers v vs width n p)
-          → (p : ℕ) → p < n → InList list (k + 1) p ⊎ MemberReady sheet set numbers w ws width n p → Tested (eqb i p)
-          → MemberReady sheet set numbers u us width n p
+          → ((p : ℕ) → p < n → InList list k p ⊎ LinesKept sheet set numbers w ws width n p → LinesKept sheet set numbers v vs width n p)
+          → (p : ℕ) → p < n → InList list (k + 1) p ⊎ LinesKept sheet set numbers w ws width n p → Tested (eqb i p)
+          → LinesKept sheet set numbers u us width n p
       go sheet set numbers m r R K f p l y (passes e) =
-          subst (λ (z : ℕ). MemberReady sheet set numbers u us width n z) (eqb-true i p e) (record {
+          subst (λ (z : ℕ). LinesKept sheet set numbers u us width n z) (eqb-true i p e) (record {
             lined = this-lined n v (S .shape) i h u D sheet set numbers m r R K;
             stands = this-stands n v (S .shape) i h u D sheet set numbers m r R K;
             watched = W .watched;
@@ -237,7 +237,7 @@ module _ (w ws : List ℕ) (width n : ℕ) (list : List ℕ) (k : ℕ) (v vs : L
             watched = other-watched n v (S .shape) i h u D sheet set numbers m r R K p l d vs us width (W .grown) (x .watched);
           }
         where
-          by : InList list (k + 1) p ⊎ MemberReady sheet set numbers w ws width n p
-              → InList list k p ⊎ MemberReady sheet set numbers w ws width n p
+          by : InList list (k + 1) p ⊎ LinesKept sheet set numbers w ws width n p
+              → InList list k p ⊎ LinesKept sheet set numbers w ws width n p
           by (inl z) = inl (before p (eqb-false i p e) z)
           by (inr z) = inr z

@@ -1,4 +1,4 @@
--- Members of classes chosen, while the first k places are looked at: the last of each class, or the last of those at rest.
+-- Members of classes chosen, while the first k places are looked at: the last of those at rest in each class.
 use mathlib.Core.Path.{_≡_, refl, sym, ap, _∙_, subst}
 use mathlib.Core.Logic.{_⊎_, inl, inr}
 use mathlib.Core.List.{List}
@@ -14,66 +14,6 @@ use Rattle.place_sets.specs.PlaceSets.{InSet}
 use Rattle.work_places.specs.WorkPlaces.{workEnd}
 use Rattle.splitting.specs.HeldRounds.{classesAt, chosenAt, linesAt, classIn}
 use Rattle.refining.specs.ClassedPlaces.{chosenIn, Classed}
-
--- of the class of each place looked at the last place looked at is chosen
-pub record Chosen (v : List ℕ) (k : ℕ) (w : List ℕ) : Type 0 where
-  pub only : SameOutside chosenAt linesAt v w
-  pub last : (i : ℕ) → i < k
-      → (i ≤ chosenIn w (classIn v i)) × (chosenIn w (classIn v i) < k) × (classIn v (chosenIn w (classIn v i)) ≡ classIn v i)
-
-pub chosen-first : (v : List ℕ) → Chosen v 0 v
-chosen-first v = record { only = outside-same chosenAt linesAt v; last = λ i l. absurd (omega arith) }
-
--- classes are left alone
-pub chosen-class : {v w : List ℕ} {k : ℕ} → Chosen v k w → (i : ℕ) → i < 512 → classIn w i ≡ classIn v i
-chosen-class K i l = K .only .at (classesAt + i) (inl (omega arith))
-
-pub chosen-next : (v : List ℕ) (k : ℕ) (w : List ℕ) → Chosen v k w → workEnd ≤ length v → (c : ℕ) → c ≡ classIn v k → c < 512
-    → Chosen v (k + 1) (set w (chosenAt + c) k)
-chosen-next v k w K long c is small = record {
-  only = outside-again (K .only) (outside-set chosenAt linesAt w (chosenAt + c) k (omega arith) (omega arith));
-  last = λ i l. go i l (tested (eqb (classIn v i) c));
-}
-  where
-    u : List ℕ
-    u = set w (chosenAt + c) k
-
-    mine : chosenIn u c ≡ k
-    mine = getD-set-same w (chosenAt + c) k 0 (omega (arith, K .only .long))
-
-    go : (i : ℕ) → i < k + 1 → Tested (eqb (classIn v i) c)
-        → (i ≤ chosenIn u (classIn v i)) × (chosenIn u (classIn v i) < k + 1) × (classIn v (chosenIn u (classIn v i)) ≡ classIn v i)
-    go i l (passes e) =
-        let d : classIn v i ≡ c = eqb-true (classIn v i) c e in
-        let x : chosenIn u (classIn v i) ≡ k = ap (chosenIn u) d ∙ mine in
-        (omega arith, omega arith, ap (classIn v) x ∙ sym is ∙ sym d)
-    go i l (fails e) =
-        let d : classIn v i ≡ c → ⊥ = eqb-false (classIn v i) c e in
-        let b : i < k = below i l d (tested (eqb i k)) in
-        let x : chosenIn u (classIn v i) ≡ chosenIn w (classIn v i) =
-        getD-set-other w (chosenAt + c) (chosenAt + classIn v i) k 0 (λ z. d (omega arith)) in
-        let y = K .last i b in
-        (omega (arith, y .0), omega (arith, y .1), ap (classIn v) x ∙ y .2)
-      where
-        below : (i : ℕ) → i < k + 1 → (classIn v i ≡ c → ⊥) → Tested (eqb i k) → i < k
-        below i l d (passes z) = absurd (d (ap (classIn v) (eqb-true i k z) ∙ sym is))
-        below i l d (fails z) = omega (arith, eqb-false i k z)
-
--- each class keeps a chosen member
-pub chosen-classed : {v w : List ℕ} {n count : ℕ} → Chosen v n w → n ≤ 512 → Classed v n count → Classed w n count
-chosen-classed {v} {w} {n} {count} K few C = record {
-  known = λ i l. omega (arith, chosen-class K i (omega arith), C .known i l);
-  chosen-in = λ c l. one c l .0;
-  chosen-of = λ c l. let x = one c l in chosen-class K (chosenIn w c) (omega (arith, x .0)) ∙ x .1;
-}
-  where
-    one : (c : ℕ) → c < count → (chosenIn w c < n) × (classIn v (chosenIn w c) ≡ c)
-    one c l =
-        let e : classIn v (chosenIn v c) ≡ c = C .chosen-of c l in
-        let x = K .last (chosenIn v c) (C .chosen-in c l) in (
-          subst (λ (z : ℕ). chosenIn w z < n) e (x .1),
-          subst (λ (z : ℕ). classIn v (chosenIn w z) ≡ z) e (x .2),
-        )
 
 -- of each class that has a place at rest, that is none of the set, among those looked at, the last such place is chosen
 pub record Rechosen (v : List ℕ) (n : ℕ) (awake : List ℕ) (k : ℕ) (w : List ℕ) : Type 0 where

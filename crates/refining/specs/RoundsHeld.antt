@@ -38,13 +38,13 @@ use Rattle.lining.specs.Shapes.{keptAt, targetAt, Shape, held-shape, lined-set,
 use Rattle.lining.specs.LinedMembers.{lineTotal}
 use Rattle.lining.specs.SettledMoves.{Settled, stood-settled, settled-stands, SplitFrom, settled-lines}
 use Rattle.lining.specs.Watching.{MoveWatched}
-use Rattle.lining.specs.LinedSets.{MemberLined, MemberReady, InList, SetLined}
+use Rattle.lining.specs.LinedSets.{MemberLined, LinesKept, InList, SetLined}
 use Rattle.lining.specs.Forgetting.{Forgotten, forgotten-held}
 use Rattle.refining.specs.ClassedPlaces.{chosenIn, Classed, classed-count, classed-same}
 use Rattle.refining.specs.Founding.{storeIn, StoresRise, Founding}
 use Rattle.refining.specs.Stages.{nobody, TogetherHeld, PresentHeld, SetReady, present-listed, present-round, Stage}
 use Rattle.refining.specs.LineTests.{linesHeld}
-use Rattle.refining.specs.Choosing.{Chosen, chosen-class, chosen-classed}
+use Rattle.refining.specs.Choosing.{Rechosen, rechosen-class, rechosen-classed}
 use Rattle.refining.specs.Waking.{ListFits, NextListed}
 use Rattle.refining.specs.SplitRounds.{Splitting, splitting-all}
 use Rattle.refining.specs.NextClasses.{next-together, next-present}
@@ -74,8 +74,8 @@ pub record Refined (v : List ℕ) (n m : ℕ) (w : List ℕ) (r count : ℕ) : T
 -- ---- what holds after each round
 -- the member at place i and the chosen one of its class are ready in the present classes, and have the same lines
 pub record AtRest (sheet : Sheet) (set : List Configuration) (w ws : List ℕ) (width n i : ℕ) : Type 0 where
-  pub own : MemberReady sheet set (classesIn w n) w ws width n i
-  pub chosen : MemberReady sheet set (classesIn w n) w ws width n (chosenIn w (classIn w i))
+  pub own : LinesKept sheet set (classesIn w n) w ws width n i
+  pub chosen : LinesKept sheet set (classesIn w n) w ws width n (chosenIn w (classIn w i))
   pub alike : linesHeld w i ≡ linesHeld w (chosenIn w (classIn w i))
 
 -- the classes of round r of a set, and the dominating moves kept for it; a member is listed or at rest; each round up to r had a birth
@@ -159,14 +159,14 @@ stores-rise sheet set w n m R j k h l = go (tested (eqb j k))
         (omega (arith, eqb-false j k e)) l)
 
 module _ (v : List ℕ) (n m : ℕ) (a : List ℕ) (f : Forgotten v m a) (b : List ℕ) (count : ℕ) (F : Founding a n b count)
-    (d : List ℕ) (C : Chosen b n d) (ws : List ℕ) (width : ℕ) (list : List ℕ) (all : (j : ℕ) → j < n → getD list j 0 ≡ j) where
+    (d awake : List ℕ) (C : Rechosen b n awake n d) (ws : List ℕ) (width : ℕ) (list : List ℕ) (all : (j : ℕ) → j < n → getD list j 0 ≡ j) where
   first-now : (sheet : Sheet) (set : List Configuration) → SetReady sheet set a n m → n ≤ 512 → DominatorsKept sheet set a n (classesIn d n)
       → RoundNow sheet set d ws width n list n 0 count
   first-now sheet set R few D = record {
     present = present-founders (λ (i : ℕ). i < length set) (TogetherHeld sheet set) (fromIn d) (bornIn d) count (classIn d)
         (λ c l. ap (λ (x : ℕ). x % 65536) (birth c l ∙ F .founders c l))
         (λ i l. omega (arith, class i (omega (arith, size)), F .classed .known i (omega (arith, size))))
-        (λ c l. let x = chosen-classed C few (F .classed) in
+        (λ c l. let x = rechosen-classed C few (F .classed) in
         (chosenIn d c, omega (arith, size, x .chosen-in c l), x .chosen-of c l))
         (λ i j li lj. (
           (λ e. store i (omega (arith, size))
@@ -188,7 +188,7 @@ module _ (v : List ℕ) (n m : ℕ) (a : List ℕ) (f : Forgotten v m a) (b : Li
       size = held-count sheet set a n m (R .held)
 
       class : (i : ℕ) → i < n → classIn d i ≡ classIn b i
-      class i l = chosen-class C i (omega arith)
+      class i l = rechosen-class C i (omega arith)
 
       birth : (c : ℕ) → c < count → getD d (birthsAt + c) 0 ≡ getD b (birthsAt + c) 0
       birth c l = C .only .at (birthsAt + c) (inl (omega (arith, F .count-fits)))
@@ -203,7 +203,7 @@ module _ (v : List ℕ) (n m : ℕ) (a : List ℕ) (f : Forgotten v m a) (b : Li
       let s : SameSet v a = same-set-low (omega arith) (f .outside) in record {
         same-set = same-set-trans s (same-set-trans (same-set-high (omega arith) (F .only)) (same-set-high (omega arith) (C .only)));
         at-end = λ k h. C .only .at k (inr (omega arith)) ∙ F .only .at k (inr (omega arith)) ∙ f .outside .at k (inr (omega arith));
-        classed = chosen-classed C few (F .classed);
+        classed = rechosen-classed C few (F .classed);
         listed = record {
           few = omega arith;
           below = λ j l. omega (arith, all j l);
@@ -246,14 +246,14 @@ module _ (v : List ℕ) (n m : ℕ) (w ws : List ℕ) (width : ℕ) (list : List
 
     module _ (sheet : Sheet) (set : List Configuration) (R : SetReady sheet set v n m) where
       lined-now : DominatorsKept sheet set u n (classesIn w n)
-          × ((i : ℕ) → i < n → InList list k i ⊎ MemberReady sheet set (classesIn w n) w ws width n i
-          → MemberReady sheet set (classesIn w n) u us width n i)
+          × ((i : ℕ) → i < n → InList list k i ⊎ LinesKept sheet set (classesIn w n) w ws width n i
+          → LinesKept sheet set (classesIn w n) u us width n i)
       lined-now = L .lines sheet set (classesIn w n) m r (round-held sheet set R) (now sheet set R .kept)
 
-      ready-now : (i : ℕ) → i < n → MemberReady sheet set (classesIn w n) u us width n i
+      ready-now : (i : ℕ) → i < n → LinesKept sheet set (classesIn w n) u us width n i
       ready-now i l = go (now sheet set R .rest i l)
         where
-          go : InList list k i ⊎ AtRest sheet set w ws width n i → MemberReady sheet set (classesIn w n) u us width n i
+          go : InList list k i ⊎ AtRest sheet set w ws width n i → LinesKept sheet set (classesIn w n) u us width n i
           go (inl x) = lined-now .1 i l (inl x)
           go (inr x) = lined-now .1 i l (inr (x .own))
 
@@ -261,7 +261,7 @@ module _ (v : List ℕ) (n m : ℕ) (w ws : List ℕ) (width : ℕ) (list : List
       member-same i l = held-member-same sheet set w u n m (here sheet set R .held) (lined-set (L .only)) i l
 
       -- a member that was ready has the lines it had
-      lines-left : (i : ℕ) → i < n → MemberReady sheet set (classesIn w n) w ws width n i → linesHeld u i ≡ linesHeld w i
+      lines-left : (i : ℕ) → i < n → LinesKept sheet set (classesIn w n) w ws width n i → linesHeld u i ≡ linesHeld w i
       lines-left i l x =
           ready-now i l .lined .lines ∙ ap (linesOf sheet set (classesIn w n)) (member-same i l) ∙ sym (x .lined .lines)
 
@@ -407,7 +407,7 @@ module _ (v : List ℕ) (n m : ℕ) (w ws : List ℕ) (width : ℕ) (list : List
 
           -- ---- a member that is not listed
           module _ (p : ℕ) (l : p < n) (d : InList next-list total p → ⊥) where
-            was : MemberReady sheet set (classesIn w n) u us width n p
+            was : LinesKept sheet set (classesIn w n) u us width n p
             was = ready-now sheet set R p l
 
             first-same : firstMove y p ≡ firstMove u p
@@ -476,7 +476,7 @@ module _ (v : List ℕ) (n m : ℕ) (w ws : List ℕ) (width : ℕ) (list : List
                 ∙ numbers-same u y (linesAt + firstMove u p) (linesAt + firstMove u p + lineTotal u p) (set-there .long)
                 (λ j a b. high j (omega arith))
 
-            ready-there : MemberReady sheet set (classesIn y n) y us width n p
+            ready-there : LinesKept sheet set (classesIn y n) y us width n p
             ready-there = record {
               lined = record {
                 few = omega (arith, was .lined .few, total-same, low (lineTotalsAt + p) (omega (arith, few)));
@@ -511,7 +511,7 @@ module _ (v : List ℕ) (n m : ℕ) (w ws : List ℕ) (width : ℕ) (list : List
               go (inr z) =
                   inr (record {
                     own = ready-there i l (z .0);
-                    chosen = subst (MemberReady sheet set (classesIn y n) y us width n) (sym is)
+                    chosen = subst (LinesKept sheet set (classesIn y n) y us width n) (sym is)
                         (ready-there (chosenIn y (classIn x i)) (z .1) (z .2));
                     alike = lines-there i l (z .0) ∙ A .alike i l l
                         ∙ ap (λ (c : ℕ). linesHeld u (chosenIn x c)) (sym (z .3))

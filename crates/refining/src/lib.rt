@@ -18,7 +18,7 @@ ghost use Rattle.refining.specs.ClassedPlaces.{Tells, chosenIn, Classed}
 ghost use Rattle.refining.specs.Founding.{StoreTold, FoundOne, Founding};
 ghost use Rattle.refining.specs.LineTests.{numbersFrom, linesHeld, LineFits, PartFits};
 ghost use Rattle.refining.specs.MemberSplits.{PartFound, MemberReady, MemberSplit};
-ghost use Rattle.refining.specs.Choosing.{Chosen, Rechosen};
+ghost use Rattle.refining.specs.Choosing.{Rechosen};
 ghost use Rattle.refining.specs.SplitRounds.{Splitting};
 ghost use Rattle.refining.specs.Waking.{ListFits, Woken, NextListed};
 ghost use Rattle.refining.specs.RoundsHeld.{Ready, Refined};
@@ -172,19 +172,6 @@ fn split_member(w: &mut [u32], round: usize, i: usize, old: usize, count: usize)
     count + 1
 }
 
-// The last member of each class chosen.
-fn choose_last(w: &mut [u32], n: usize)
-    requires { ⌜ (n ≤ 512) × (workEnd ≤ length (now w)) × ((i : ℕ) → i < n → classIn (now w) i < 512) ⌝ }
-    ensures { λ _. ⌜ Chosen (now (w .entry)) n (now (w .exit)) ⌝ }
-{
-    let mut i: usize = 0;
-    while i < n {
-        let c = lining::class_at(w, i);
-        w[CHOSEN + c as usize] = i as u32;
-        i += 1;
-    }
-}
-
 // Whether a listed member is the chosen one of its class.
 fn chosen_listed(w: &[u32], list: &[u16; 512], k: usize) -> bool
     requires { ⌜ (k ≤ 512) × (workEnd ≤ length (now w)) × ((j : ℕ) → j < k → (getD (now list) j 0 < 512) × (classIn (now w) (getD (now list) j 0) < 512)) ⌝ }
@@ -308,7 +295,8 @@ fn split_rounds(w: &mut [u32], sets: &mut [u64], width: usize, n: usize, m: usiz
 {
     lining::forget_dominators(w, m);
     let mut count = found_classes(w, n);
-    choose_last(w, n);
+    let nobody = [0u64; 8];
+    choose_rest(w, n, &nobody);
     let mut list = [0u16; 512];
     list_all(&mut list, n);
     let mut k = n;

@@ -1,4 +1,4 @@
--- Classes that keep their numbers. When a class splits, its first part keeps the number, and each other part gets a new one,
+-- Classes that keep their numbers. When a class splits, one part keeps the number, and each other part gets a new one,
 -- with the class it came from and the round. The class of a member in an earlier round is reached by climbing, and the first
 -- round that has two members apart by climbing from the higher of their two classes.
 use mathlib.Core.Path.{_≡_, refl, sym, ap, _∙_, subst}

@@ -56,7 +56,7 @@ classesAt = 10752
 abbrev pub birthsAt : ℕ
 birthsAt = 11264
 
--- for each part of a class: the place of its first member
+-- for each class: the place of its chosen member
 abbrev pub chosenAt : ℕ
 chosenAt = 11776
 

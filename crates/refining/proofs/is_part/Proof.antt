@@ -1,4 +1,4 @@
--- `is_part` asks where the class came from, and then for the lines of its first member.
+-- `is_part` asks where the class came from, and then for the lines of its chosen member.
 use Rattle.lists.specs.Tests.{true-false}
 use mathlib.Core.Bool.{false}
 use Rattle.refining.specs.LineTests.{part-tell}

@@ -1,4 +1,4 @@
--- `split_member` compares with the first members of the class and of its new parts: those stand for all members with their lines.
+-- `split_member` compares with the chosen members of the class and of its new parts: those stand for all members with their lines.
 use lib.ListN.{length, length-set}
 use Rattle.refining.specs.MemberSplits.{ready-class, ready-count, ready-lines, ready-own, read-room, split-keeps, split-joins, split-begins}
 use native.Mathlib.Omega.{arith}

@@ -1,7 +1,7 @@
 -- `split_rounds` goes on while a round splits a class, so each round but the last has a birth; there are no more classes than
 -- members. In each round a member is listed or at rest.
 use mathlib.Core.List.{List}
-use lib.ListN.{length}
+use lib.ListN.{length, replicate}
 use Rattle.refining.specs.ClassedPlaces.{classed-count}
 use Rattle.refining.specs.RoundsHeld.{Ready, Refining, refining-first, refining-shape, refining-classed, refining-lines, refining-next, refining-last}
 use borrow.Author.Needs.{needs}
@@ -14,11 +14,15 @@ use Rattle.refining.proofs.split_rounds.Reads as reads
 use Rattle.refining.proofs.split_rounds.Lts as lts
 use Rattle.lining.proofs.forget_dominators.Reads as forget-dominators-reads
 use Rattle.lining.proofs.line_listed.Reads as line-listed-reads
-use Rattle.refining.proofs.choose_last.Reads as choose-last-reads
+use Rattle.refining.proofs.choose_rest.Reads as choose-rest-reads
 use Rattle.refining.proofs.found_classes.Reads as found-classes-reads
 use Rattle.refining.proofs.list_all.Reads as list-all-reads
 use Rattle.refining.proofs.list_next.Reads as list-next-reads
 use Rattle.refining.proofs.split_listed.Reads as split-listed-reads
+
+-- the set that has no member
+abbrev nobody : List ℕ
+nobody = replicate 8 0
 
 abbrev Inv-loop : tie.InvT-loop
 Inv-loop w₀ sets₀ width n m count₀ list₀ k₀ round₀ w sets count list k round =
@@ -36,12 +40,12 @@ found-classes-requires c κs =
     let H = c .before .before .before .before .before .before .before .pre .0 .ready .held in
     (H .few .0, omega (arith, H .long, c .before .before .before .forget-dominators .ensures .outside .long))
 
-choose-last-requires : tie.Need-choose-last-requires Inv-loop μ-loop
-choose-last-requires c κs =
-    let H = c .before .before .before .before .before .before .before .before .before .before .before .pre .0 .ready .held in
-    let d = c .before .before .before .found-classes in (
+choose-rest-requires : tie.Need-choose-rest-requires Inv-loop μ-loop
+choose-rest-requires c κs =
+    let H = c .before .before .before .before .before .before .before .before .before .before .before .before .pre .0 .ready .held in
+    let d = c .before .before .before .before .found-classes in (
       H .few .0,
-      omega (arith, H .long, c .before .before .before .before .before .before .before .forget-dominators .ensures .outside .long, d .ensures .only .long),
+      omega (arith, H .long, c .before .before .before .before .before .before .before .before .forget-dominators .ensures .outside .long, d .ensures .only .long),
       (λ i l. omega (arith, d .ensures .classed .known i l, classed-count (d .ensures .classed), H .few .0)),
     )
 
@@ -50,7 +54,7 @@ slice-aggregate-list-all c = search needs
 
 list-all-requires : tie.Need-list-all-requires Inv-loop μ-loop
 list-all-requires c κs =
-    let H = c .before .before .before .before .before .before .before .before .before .before .before .before .before .before .before .pre .0 .ready .held in
+    let H = c .before .before .before .before .before .before .before .before .before .before .before .before .before .before .before .before .pre .0 .ready .held in
     (H .few .0, omega (arith, H .few .0))
 
 loop-holds : tie.Need-loop-holds Inv-loop μ-loop
@@ -58,16 +62,16 @@ loop-holds c = (refl, refl, (λ v Y G. G))
 
 line-listed-requires : tie.Need-line-listed-requires Inv-loop μ-loop
 line-listed-requires c κs =
-    let b = c .before .before .before .before .before .before .before .before .before .before .before .before .before .before .before .before .before .before .before .before .before in
+    let b = c .before .before .before .before .before .before .before .before .before .before .before .before .before .before .before .before .before .before .before .before .before .before in
     let g = b .args in
     let v : List ℕ = g .w .now in
-    let f = c .before .before .before .before .before .before .before .before .before .before .before .before .before .before .before .before .before .forget-dominators in
-    let d = c .before .before .before .before .before .before .before .before .before .before .before .before .before .found-classes in
-    let h = c .before .before .before .before .before .before .before .before .before .choose-last in
+    let f = c .before .before .before .before .before .before .before .before .before .before .before .before .before .before .before .before .before .before .forget-dominators in
+    let d = c .before .before .before .before .before .before .before .before .before .before .before .before .before .before .found-classes in
+    let h = c .before .before .before .before .before .before .before .before .before .choose-rest in
     let a = c .before .before .before .before .before .list-all in
     let l = c .before .before .before .loop in
     let G : Refining v (g .n) (g .m) (l .w) (l .sets) (g .width) (l .list) (l .k) (l .round) (l .count) =
-    l .inv .2 v (b .pre .0) (refining-first v (g .n) (g .m) (f .last .0) (f .ensures) (d .last .0) (d .result) (d .ensures) (h .last .0) (h .ensures)
+    l .inv .2 v (b .pre .0) (refining-first v (g .n) (g .m) (f .last .0) (f .ensures) (d .last .0) (d .result) (d .ensures) (h .last .0) nobody (h .ensures)
     (g .sets .now) (g .width) (a .last .0) (a .ensures) (b .pre .0)) in
     let H = b .pre .0 .ready .held in (
       refining-shape v (g .n) (g .m) (l .w) (l .sets) (g .width) (l .list) (l .k) (l .round) (l .count) G (b .pre .0),
@@ -80,31 +84,31 @@ line-listed-requires c κs =
 
 add-split-listed : tie.Need-add-split-listed Inv-loop μ-loop
 add-split-listed c =
-    let b = c .before .before .before .before .before .before .before .before .before .before .before .before .before .before .before .before .before .before .before .before .before .before .before .before .before .before .before .before in
+    let b = c .before .before .before .before .before .before .before .before .before .before .before .before .before .before .before .before .before .before .before .before .before .before .before .before .before .before .before .before .before in
     let g = b .args in
     let v : List ℕ = g .w .now in
-    let f = c .before .before .before .before .before .before .before .before .before .before .before .before .before .before .before .before .before .before .before .before .before .before .before .before .forget-dominators in
-    let d = c .before .before .before .before .before .before .before .before .before .before .before .before .before .before .before .before .before .before .before .before .found-classes in
-    let h = c .before .before .before .before .before .before .before .before .before .before .before .before .before .before .before .before .choose-last in
+    let f = c .before .before .before .before .before .before .before .before .before .before .before .before .before .before .before .before .before .before .before .before .before .before .before .before .before .forget-dominators in
+    let d = c .before .before .before .before .before .before .before .before .before .before .before .before .before .before .before .before .before .before .before .before .before .found-classes in
+    let h = c .before .before .before .before .before .before .before .before .before .before .before .before .before .before .before .before .choose-rest in
     let a = c .before .before .before .before .before .before .before .before .before .before .before .before .list-all in
     let l = c .before .before .before .before .before .before .before .before .before .before .loop in
     let G : Refining v (g .n) (g .m) (l .w) (l .sets) (g .width) (l .list) (l .k) (l .round) (l .count) =
-    l .inv .2 v (b .pre .0) (refining-first v (g .n) (g .m) (f .last .0) (f .ensures) (d .last .0) (d .result) (d .ensures) (h .last .0) (h .ensures)
+    l .inv .2 v (b .pre .0) (refining-first v (g .n) (g .m) (f .last .0) (f .ensures) (d .last .0) (d .result) (d .ensures) (h .last .0) nobody (h .ensures)
     (g .sets .now) (g .width) (a .last .0) (a .ensures) (b .pre .0)) in
     omega (arith, G .early, classed-count (G .classed), b .pre .0 .ready .held .few)
 
 split-listed-requires : tie.Need-split-listed-requires Inv-loop μ-loop
 split-listed-requires c κs =
-    let b = c .before .before .before .before .before .before .before .before .before .before .before .before .before .before .before .before .before .before .before .before .before .before .before .before .before .before .before .before in
+    let b = c .before .before .before .before .before .before .before .before .before .before .before .before .before .before .before .before .before .before .before .before .before .before .before .before .before .before .before .before .before in
     let g = b .args in
     let v : List ℕ = g .w .now in
-    let f = c .before .before .before .before .before .before .before .before .before .before .before .before .before .before .before .before .before .before .before .before .before .before .before .before .forget-dominators in
-    let d = c .before .before .before .before .before .before .before .before .before .before .before .before .before .before .before .before .before .before .before .before .found-classes in
-    let h = c .before .before .before .before .before .before .before .before .before .before .before .before .before .before .before .before .choose-last in
+    let f = c .before .before .before .before .before .before .before .before .before .before .before .before .before .before .before .before .before .before .before .before .before .before .before .before .before .forget-dominators in
+    let d = c .before .before .before .before .before .before .before .before .before .before .before .before .before .before .before .before .before .before .before .before .before .found-classes in
+    let h = c .before .before .before .before .before .before .before .before .before .before .before .before .before .before .before .before .choose-rest in
     let a = c .before .before .before .before .before .before .before .before .before .before .before .before .list-all in
     let l = c .before .before .before .before .before .before .before .before .before .before .loop in
     let G : Refining v (g .n) (g .m) (l .w) (l .sets) (g .width) (l .list) (l .k) (l .round) (l .count) =
-    l .inv .2 v (b .pre .0) (refining-first v (g .n) (g .m) (f .last .0) (f .ensures) (d .last .0) (d .result) (d .ensures) (h .last .0) (h .ensures)
+    l .inv .2 v (b .pre .0) (refining-first v (g .n) (g .m) (f .last .0) (f .ensures) (d .last .0) (d .result) (d .ensures) (h .last .0) nobody (h .ensures)
     (g .sets .now) (g .width) (a .last .0) (a .ensures) (b .pre .0)) in
     let u = c .before .before .before .before .before .before .line-listed in
     let H = b .pre .0 .ready .held in (
@@ -118,9 +122,9 @@ split-listed-requires c κs =
 
 same-length : tie.Need-same-length Inv-loop μ-loop
 same-length c =
-    let f = c .before .before .before .before .before .before .before .before .before .before .before .before .before .before .before .before .before .before .before .before .before .before .before .before .before .before .before .before .forget-dominators in
-    let d = c .before .before .before .before .before .before .before .before .before .before .before .before .before .before .before .before .before .before .before .before .before .before .before .before .found-classes in
-    let h = c .before .before .before .before .before .before .before .before .before .before .before .before .before .before .before .before .before .before .before .before .choose-last in
+    let f = c .before .before .before .before .before .before .before .before .before .before .before .before .before .before .before .before .before .before .before .before .before .before .before .before .before .before .before .before .before .forget-dominators in
+    let d = c .before .before .before .before .before .before .before .before .before .before .before .before .before .before .before .before .before .before .before .before .before .before .before .before .before .found-classes in
+    let h = c .before .before .before .before .before .before .before .before .before .before .before .before .before .before .before .before .before .before .before .before .choose-rest in
     let u = c .before .before .before .before .before .before .before .before .before .before .line-listed in
     let s = c .before .before .before .split-listed in
     omega (
@@ -140,16 +144,16 @@ same-length-2 c =
 
 returns : tie.Need-returns Inv-loop μ-loop
 returns c =
-    let b = c .before .before .before .before .before .before .before .before .before .before .before .before .before .before .before .before .before .before .before .before .before .before .before .before .before .before .before .before .before .before .before .before in
+    let b = c .before .before .before .before .before .before .before .before .before .before .before .before .before .before .before .before .before .before .before .before .before .before .before .before .before .before .before .before .before .before .before .before .before in
     let g = b .args in
     let v : List ℕ = g .w .now in
-    let f = c .before .before .before .before .before .before .before .before .before .before .before .before .before .before .before .before .before .before .before .before .before .before .before .before .before .before .before .before .forget-dominators in
-    let d = c .before .before .before .before .before .before .before .before .before .before .before .before .before .before .before .before .before .before .before .before .before .before .before .before .found-classes in
-    let h = c .before .before .before .before .before .before .before .before .before .before .before .before .before .before .before .before .before .before .before .before .choose-last in
+    let f = c .before .before .before .before .before .before .before .before .before .before .before .before .before .before .before .before .before .before .before .before .before .before .before .before .before .before .before .before .before .forget-dominators in
+    let d = c .before .before .before .before .before .before .before .before .before .before .before .before .before .before .before .before .before .before .before .before .before .before .before .before .before .found-classes in
+    let h = c .before .before .before .before .before .before .before .before .before .before .before .before .before .before .before .before .before .before .before .before .choose-rest in
     let a = c .before .before .before .before .before .before .before .before .before .before .before .before .before .before .before .before .list-all in
     let l = c .before .before .before .before .before .before .before .before .before .before .before .before .before .before .loop in
     let G : Refining v (g .n) (g .m) (l .w) (l .sets) (g .width) (l .list) (l .k) (l .round) (l .count) =
-    l .inv .2 v (b .pre .0) (refining-first v (g .n) (g .m) (f .last .0) (f .ensures) (d .last .0) (d .result) (d .ensures) (h .last .0) (h .ensures)
+    l .inv .2 v (b .pre .0) (refining-first v (g .n) (g .m) (f .last .0) (f .ensures) (d .last .0) (d .result) (d .ensures) (h .last .0) nobody (h .ensures)
     (g .sets .now) (g .width) (a .last .0) (a .ensures) (b .pre .0)) in
     let u = c .before .before .before .before .before .before .before .before .before .before .line-listed in
     let s = c .before .before .before .split-listed in
@@ -157,16 +161,16 @@ returns c =
 
 list-next-requires : tie.Need-list-next-requires Inv-loop μ-loop
 list-next-requires c κs =
-    let b = c .before .before .before .before .before .before .before .before .before .before .before .before .before .before .before .before .before .before .before .before .before .before .before .before .before .before .before .before .before .before .before .before .before .before .before in
+    let b = c .before .before .before .before .before .before .before .before .before .before .before .before .before .before .before .before .before .before .before .before .before .before .before .before .before .before .before .before .before .before .before .before .before .before .before .before in
     let g = b .args in
     let v : List ℕ = g .w .now in
-    let f = c .before .before .before .before .before .before .before .before .before .before .before .before .before .before .before .before .before .before .before .before .before .before .before .before .before .before .before .before .before .before .before .forget-dominators in
-    let d = c .before .before .before .before .before .before .before .before .before .before .before .before .before .before .before .before .before .before .before .before .before .before .before .before .before .before .before .found-classes in
-    let h = c .before .before .before .before .before .before .before .before .before .before .before .before .before .before .before .before .before .before .before .before .before .before .before .choose-last in
+    let f = c .before .before .before .before .before .before .before .before .before .before .before .before .before .before .before .before .before .before .before .before .before .before .before .before .before .before .before .before .before .before .before .before .forget-dominators in
+    let d = c .before .before .before .before .before .before .before .before .before .before .before .before .before .before .before .before .before .before .before .before .before .before .before .before .before .before .before .before .found-classes in
+    let h = c .before .before .before .before .before .before .before .before .before .before .before .before .before .before .before .before .before .before .before .before .before .before .before .choose-rest in
     let a = c .before .before .before .before .before .before .before .before .before .before .before .before .before .before .before .before .before .before .before .list-all in
     let l = c .before .before .before .before .before .before .before .before .before .before .before .before .before .before .before .before .before .loop in
     let G : Refining v (g .n) (g .m) (l .w) (l .sets) (g .width) (l .list) (l .k) (l .round) (l .count) =
-    l .inv .2 v (b .pre .0) (refining-first v (g .n) (g .m) (f .last .0) (f .ensures) (d .last .0) (d .result) (d .ensures) (h .last .0) (h .ensures)
+    l .inv .2 v (b .pre .0) (refining-first v (g .n) (g .m) (f .last .0) (f .ensures) (d .last .0) (d .result) (d .ensures) (h .last .0) nobody (h .ensures)
     (g .sets .now) (g .width) (a .last .0) (a .ensures) (b .pre .0)) in
     let u = c .before .before .before .before .before .before .before .before .before .before .before .before .before .line-listed in
     let s = c .before .before .before .before .before .before .split-listed in
@@ -182,38 +186,38 @@ list-next-requires c κs =
 
 add-round : tie.Need-add-round Inv-loop μ-loop
 add-round c =
-    let b = c .before .before .before .before .before .before .before .before .before .before .before .before .before .before .before .before .before .before .before .before .before .before .before .before .before .before .before .before .before .before .before .before .before .before .before .before .before .before in
+    let b = c .before .before .before .before .before .before .before .before .before .before .before .before .before .before .before .before .before .before .before .before .before .before .before .before .before .before .before .before .before .before .before .before .before .before .before .before .before .before .before in
     let g = b .args in
     let v : List ℕ = g .w .now in
-    let f = c .before .before .before .before .before .before .before .before .before .before .before .before .before .before .before .before .before .before .before .before .before .before .before .before .before .before .before .before .before .before .before .before .before .before .forget-dominators in
-    let d = c .before .before .before .before .before .before .before .before .before .before .before .before .before .before .before .before .before .before .before .before .before .before .before .before .before .before .before .before .before .before .found-classes in
-    let h = c .before .before .before .before .before .before .before .before .before .before .before .before .before .before .before .before .before .before .before .before .before .before .before .before .before .before .choose-last in
+    let f = c .before .before .before .before .before .before .before .before .before .before .before .before .before .before .before .before .before .before .before .before .before .before .before .before .before .before .before .before .before .before .before .before .before .before .before .forget-dominators in
+    let d = c .before .before .before .before .before .before .before .before .before .before .before .before .before .before .before .before .before .before .before .before .before .before .before .before .before .before .before .before .before .before .before .found-classes in
+    let h = c .before .before .before .before .before .before .before .before .before .before .before .before .before .before .before .before .before .before .before .before .before .before .before .before .before .before .choose-rest in
     let a = c .before .before .before .before .before .before .before .before .before .before .before .before .before .before .before .before .before .before .before .before .before .before .list-all in
     let l = c .before .before .before .before .before .before .before .before .before .before .before .before .before .before .before .before .before .before .before .before .loop in
     let G : Refining v (g .n) (g .m) (l .w) (l .sets) (g .width) (l .list) (l .k) (l .round) (l .count) =
-    l .inv .2 v (b .pre .0) (refining-first v (g .n) (g .m) (f .last .0) (f .ensures) (d .last .0) (d .result) (d .ensures) (h .last .0) (h .ensures)
+    l .inv .2 v (b .pre .0) (refining-first v (g .n) (g .m) (f .last .0) (f .ensures) (d .last .0) (d .result) (d .ensures) (h .last .0) nobody (h .ensures)
     (g .sets .now) (g .width) (a .last .0) (a .ensures) (b .pre .0)) in
     omega (arith, G .early, classed-count (G .classed), b .pre .0 .ready .held .few)
 
 loop-less : tie.Need-loop-less Inv-loop μ-loop
 loop-less c =
-    let b = c .before .before .before .before .before .before .before .before .before .before .before .before .before .before .before .before .before .before .before .before .before .before .before .before .before .before .before .before .before .before .before .before .before .before .before .before .before .before in
+    let b = c .before .before .before .before .before .before .before .before .before .before .before .before .before .before .before .before .before .before .before .before .before .before .before .before .before .before .before .before .before .before .before .before .before .before .before .before .before .before .before in
     let g = b .args in
     let v : List ℕ = g .w .now in
-    let f = c .before .before .before .before .before .before .before .before .before .before .before .before .before .before .before .before .before .before .before .before .before .before .before .before .before .before .before .before .before .before .before .before .before .before .forget-dominators in
-    let d = c .before .before .before .before .before .before .before .before .before .before .before .before .before .before .before .before .before .before .before .before .before .before .before .before .before .before .before .before .before .before .found-classes in
-    let h = c .before .before .before .before .before .before .before .before .before .before .before .before .before .before .before .before .before .before .before .before .before .before .before .before .before .before .choose-last in
+    let f = c .before .before .before .before .before .before .before .before .before .before .before .before .before .before .before .before .before .before .before .before .before .before .before .before .before .before .before .before .before .before .before .before .before .before .before .forget-dominators in
+    let d = c .before .before .before .before .before .before .before .before .before .before .before .before .before .before .before .before .before .before .before .before .before .before .before .before .before .before .before .before .before .before .before .found-classes in
+    let h = c .before .before .before .before .before .before .before .before .before .before .before .before .before .before .before .before .before .before .before .before .before .before .before .before .before .before .choose-rest in
     let a = c .before .before .before .before .before .before .before .before .before .before .before .before .before .before .before .before .before .before .before .before .before .before .list-all in
     let l = c .before .before .before .before .before .before .before .before .before .before .before .before .before .before .before .before .before .before .before .before .loop in
     let G : Refining v (g .n) (g .m) (l .w) (l .sets) (g .width) (l .list) (l .k) (l .round) (l .count) =
-    l .inv .2 v (b .pre .0) (refining-first v (g .n) (g .m) (f .last .0) (f .ensures) (d .last .0) (d .result) (d .ensures) (h .last .0) (h .ensures)
+    l .inv .2 v (b .pre .0) (refining-first v (g .n) (g .m) (f .last .0) (f .ensures) (d .last .0) (d .result) (d .ensures) (h .last .0) nobody (h .ensures)
     (g .sets .now) (g .width) (a .last .0) (a .ensures) (b .pre .0)) in
     let s = c .before .before .before .before .before .before .before .before .before .split-listed in
     omega (arith, s .ensures .more, classed-count (s .ensures .classed), c .before .before .before .before .before .before .if1 .left)
 
 loop-again : tie.Need-loop-again Inv-loop μ-loop
 loop-again c =
-    let g = c .before .before .before .before .before .before .before .before .before .before .before .before .before .before .before .before .before .before .before .before .before .before .before .before .before .before .before .before .before .before .before .before .before .before .before .before .before .before .args in
+    let g = c .before .before .before .before .before .before .before .before .before .before .before .before .before .before .before .before .before .before .before .before .before .before .before .before .before .before .before .before .before .before .before .before .before .before .before .before .before .before .before .args in
     let l = c .before .before .before .before .before .before .before .before .before .before .before .before .before .before .before .before .before .before .before .before .loop in
     let u = c .before .before .before .before .before .before .before .before .before .before .before .before .before .before .before .before .line-listed in
     let s = c .before .before .before .before .before .before .before .before .before .split-listed in
@@ -233,7 +237,7 @@ split-rounds-spec =
     μ-loop
     forget-dominators-requires
     found-classes-requires
-    choose-last-requires
+    choose-rest-requires
     slice-aggregate-list-all
     list-all-requires
     loop-holds
