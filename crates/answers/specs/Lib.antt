@@ -1,5 +1,2 @@
+pub mod Returned
 pub mod ReadBack
-pub mod Fitting
-pub mod MemberPlaces
-pub mod FittingLaws
-pub mod ReadBackLaws

@@ -1,23 +1,23 @@
--- The promise of the call, said of what is returned and of what stands in both slices afterwards, with demand 3 in it. A report is
--- the one that is read back from the returned value and the answer's bytes.
+-- The promise of the call, within limits that are given, said of what is returned and of what stands in both slices afterwards, with
+-- demand 3 in it. A report is the one that is read back from the returned value and the answer's bytes. Document 01's call has it
+-- at document 01's limits.
 use mathlib.Core.Path.{_≡_}
-use mathlib.Core.Bool.{Bool, true, false, cond, _||_}
+use mathlib.Core.Bool.{Bool, true, false}
 use mathlib.Core.List.{List, _++_}
 use Prim.Native.Nat.{ℕ}
 use lib.ListN.{length, drop}
-use lib.Dec.{eqb}
 use Rattle.sheets.specs.Sheet.{Sheet}
 use Rattle.sheets.specs.Reading.{got, readChoice}
-use Rattle.comparison.specs.Limits.{limits}
+use Rattle.comparison.specs.CallLimits.{Limits}
 use Rattle.comparison.specs.Report as spec
 use Rattle.comparison.specs.Report.{Verdict, SAME, DIFF, reportBytes, reportLength}
-use Rattle.comparison.specs.Call.{start, cleared}
+use Rattle.comparison.specs.Frame.{start, cleared, workRefused}
 use Rattle.comparison.specs.Promise.{Refuses, Reports, Faithful}
 use Rattle.answers.specs.ReadBack.{readBack}
-use Rattle.reporting.specs.declared.Reported.{Reported}
-use Rattle.reporting.specs.declared.Answer.{Answer}
-use Rattle.reporting.specs.declared.Answer.the-variants.{Report, Refused}
-use Rattle.reporting.specs.ReportMade.{returnedOf}
+use Rattle.answers.specs.declared.Reported.{Reported}
+use Rattle.answers.specs.declared.Answer.{Answer}
+use Rattle.answers.specs.declared.Answer.the-variants.{Report, Refused}
+use Rattle.answers.specs.Returned.{returnedOf}
 
 abbrev pub verdictRead : Bool → Verdict
 verdictRead true = SAME
@@ -28,16 +28,16 @@ abbrev pub reportRead : Reported → List ℕ → spec.Report
 reportRead x answer = readBack (verdictRead (x .same)) (x .round) (x .left) (x .right) answer
 
 -- What goes with a refusal: its condition holds, the answer slice is untouched, and the work slice is cleared after 21 and 22 and
--- untouched after any other.
-pub record RefusalPromise (bytes : List ℕ) (left right : ℕ) (v before w after : List ℕ) (number place : ℕ) : Type 0 where
-  pub refuses : Refuses limits bytes left right (length v) (length before) number place
+-- untouched after any other (`clears`).
+pub record RefusalPromise (l : Limits) (bytes : List ℕ) (left right : ℕ) (v before w after : List ℕ) (number place : ℕ) : Type 0 where
+  pub refuses : Refuses l bytes left right (length v) (length before) number place
   pub untouched : after ≡ before
-  pub work : w ≡ cond (eqb number 21 || eqb number 22) (cleared v) v
+  pub work : w ≡ workRefused number v
 
 -- What goes with a report: what is read back is the report that the sheet and the choice ask for, and it is faithful to the
 -- sheet; its bytes stand in front of the answer slice, and the rest of it is as before; the work slice is cleared.
-pub record ReportPromise (bytes : List ℕ) (left right : ℕ) (v before w after : List ℕ) (x : Reported) : Type 1 where
-  pub reports : Reports limits bytes left right (length v) (length before) (reportRead x after)
+pub record ReportPromise (l : Limits) (bytes : List ℕ) (left right : ℕ) (v before w after : List ℕ) (x : Reported) : Type 1 where
+  pub reports : Reports l bytes left right (length v) (length before) (reportRead x after)
   pub faithful : (sheet : Sheet) × (end : ℕ) × (readChoice bytes left right ≡ got sheet end)
       × Faithful sheet (start sheet left) (start sheet right) (reportRead x after)
   pub long : x .length ≡ reportLength (reportRead x after)
@@ -46,8 +46,8 @@ pub record ReportPromise (bytes : List ℕ) (left right : ℕ) (v before w after
 
 -- The work slice v became w, the answer slice `before` became `after`, and `answer` was returned: each refusal under its condition
 -- and no other, and otherwise the report.
-pub record CallPromise (bytes : List ℕ) (left right : ℕ) (v before w after : List ℕ) (answer : Answer) : Type 1 where
-  pub refused : (number place : ℕ) → answer ≡ Refused number place → RefusalPromise bytes left right v before w after number place
-  pub to-refuse : (number place : ℕ) → Refuses limits bytes left right (length v) (length before) number place → answer ≡ Refused number place
-  pub made : (x : Reported) → answer ≡ Report x → ReportPromise bytes left right v before w after x
-  pub to-report : (r : spec.Report) → Reports limits bytes left right (length v) (length before) r → answer ≡ Report (returnedOf r)
+pub record CallPromise (l : Limits) (bytes : List ℕ) (left right : ℕ) (v before w after : List ℕ) (answer : Answer) : Type 1 where
+  pub refused : (number place : ℕ) → answer ≡ Refused number place → RefusalPromise l bytes left right v before w after number place
+  pub to-refuse : (number place : ℕ) → Refuses l bytes left right (length v) (length before) number place → answer ≡ Refused number place
+  pub made : (x : Reported) → answer ≡ Report x → ReportPromise l bytes left right v before w after x
+  pub to-report : (r : spec.Report) → Reports l bytes left right (length v) (length before) r → answer ≡ Report (returnedOf r)

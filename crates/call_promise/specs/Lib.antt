@@ -1,2 +1,1 @@
 pub mod CallPromise
-pub mod CallPromiseLaws

@@ -1,1 +1,1 @@
-// What is promised of the comparing call: statements and their proof, no code.
+// What is promised of the comparing call: the statement. No functions.

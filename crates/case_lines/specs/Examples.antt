@@ -2,16 +2,17 @@
 use mathlib.Core.Path.{_≡_, refl}
 use mathlib.Core.List.{List, [], _∷_}
 use Prim.Native.Nat.{ℕ}
-use Rattle.lists.specs.Tables.{tabulate}
-use Rattle.lines.specs.Decimal.{valueFrom}
+use Rattle.list_laws.specs.Tabulate.{tabulate}
+use Rattle.printed_lines.specs.Decimal.{valueFrom}
 use Rattle.case_lines.specs.Lines.{before, bytesOf, caseOf, lineOf}
+use Rattle.case_lines.specs.declared.Call.the-variants.{Set}
 use Rattle.case_lines.specs.declared.Line.the-variants.{Passed, Malformed, Holds}
 
--- k-2 0 12 0aff
+-- set k-2 0 12 0aff
 line : List ℕ
-line = 107 ∷ 45 ∷ 50 ∷ 32 ∷ 48 ∷ 32 ∷ 49 ∷ 50 ∷ 32 ∷ 48 ∷ 97 ∷ 102 ∷ 102 ∷ []
+line = 115 ∷ 101 ∷ 116 ∷ 32 ∷ 107 ∷ 45 ∷ 50 ∷ 32 ∷ 48 ∷ 32 ∷ 49 ∷ 50 ∷ 32 ∷ 48 ∷ 97 ∷ 102 ∷ 102 ∷ []
 
-case-example : lineOf line ≡ Holds (record { name = 3; left = 0; right = 12; digits = 9 })
+case-example : lineOf line ≡ Holds (record { call = Set; name = 4; until = 7; left = 0; right = 12; digits = 13 })
 unfolding line before caseOf valueFrom
 case-example = refl
 
@@ -23,7 +24,7 @@ digits-example = refl
 comment-example : lineOf (35 ∷ 32 ∷ 107 ∷ []) ≡ Passed
 comment-example = refl
 
--- k 0
-malformed-example : lineOf (107 ∷ 32 ∷ 48 ∷ []) ≡ Malformed
-unfolding before caseOf
+-- k 0 0: no call of this name
+malformed-example : lineOf (107 ∷ 32 ∷ 48 ∷ 32 ∷ 48 ∷ []) ≡ Malformed
+unfolding before
 malformed-example = refl

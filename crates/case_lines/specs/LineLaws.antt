@@ -11,13 +11,16 @@ use lib.ListN.{length, getD, take, drop, set, length-append, length-drop, drop-o
 use lib.Seq.{drop-cons, take-suc, set-at, append-snoc}
 use lib.Dec.{eqb, leb}
 use borrow.Author.Tests.{eq-eqb, ne-eqb, leb-true}
-use Rattle.lists.specs.Tests.{and-left, and-right}
-use Rattle.lists.specs.Members.{all}
-use Rattle.lists.specs.Tables.{tabulate, tabulate-next, tabulate-length}
-use Rattle.lines.specs.Decimal.{valueFrom, value}
-use Rattle.lines.specs.Lines.{space}
-use Rattle.case_lines.specs.Lines.{before, endFrom, afterFrom, between, inClass, byteOf, mostDigits, fieldAt, numberOf, wrongName, bytesOf, undecodable, Decoded, passedOver, caseOf, lineOf}
+use Rattle.list_laws.specs.TestLaws.{and-left, and-right}
+use Rattle.lists.specs.Lists.{all, sameNumbers}
+use Rattle.list_laws.specs.Tabulate.{tabulate, tabulate-next, tabulate-length}
+use Rattle.printed_lines.specs.Decimal.{valueFrom, value}
+use Rattle.printed_lines.specs.Lines.{space}
+use Rattle.case_lines.specs.Lines.{before, endFrom, afterFrom, between, inClass, byteOf, mostDigits, fieldAt, numberOf, callOf, wrongName, bytesOf, undecodable, Decoded, passedOver, caseOf, lineOf, Inside}
 use Rattle.case_lines.specs.declared.Parsed.{Parsed}
+use Rattle.case_lines.specs.declared.Call.{Call}
+use Rattle.case_lines.specs.declared.Called.{Called}
+use Rattle.case_lines.specs.declared.Called.the-variants.{Names, Unknown}
 use Rattle.case_lines.specs.declared.Case.{Case}
 use Rattle.case_lines.specs.declared.Line.{Line}
 use Rattle.case_lines.specs.declared.Parsed.the-variants.{Is, Not}
@@ -119,26 +122,59 @@ pub decoded-some : {ds out after : List ℕ} → undecodable ds out ≡ false �
     → Decoded ds out after (Is (length ds / 2))
 decoded-some h e = record { count = rw h; slice = rw h e }
 
+-- ---- words
+-- of equal bytes the later ones decide
+pub same-here : (s t : List ℕ) (i : ℕ) → i < length s → i < length t → getD s i 0 ≡ getD t i 0
+    → sameNumbers (drop i s) (drop i t) ≡ sameNumbers (drop (i + 1) s) (drop (i + 1) t)
+same-here s t i h k e =
+    rw (drop-cons s i 0 h, drop-cons t i 0 k, eq-eqb (getD s i 0) (getD t i 0) e, add-one i)
+
+pub same-not : (s t : List ℕ) (i : ℕ) → i < length s → i < length t → (getD s i 0 ≡ getD t i 0 → ⊥)
+    → sameNumbers (drop i s) (drop i t) ≡ false
+same-not s t i h k e = rw (drop-cons s i 0 h, drop-cons t i 0 k, ne-eqb (getD s i 0) (getD t i 0) e)
+
+pub same-past : (s t : List ℕ) (i : ℕ) → length s ≤ i → length t ≤ i → sameNumbers (drop i s) (drop i t) ≡ true
+same-past s t i h k = rw (drop-of-length-le s h, drop-of-length-le t k)
+
+and-false : (b : Bool) → (b && false) ≡ false
+and-false true = refl
+and-false false = refl
+
+-- words of different lengths differ
+pub same-lengths : (s t : List ℕ) → (length s ≡ length t → ⊥) → sameNumbers s t ≡ false
+same-lengths [] [] h = absurd (h refl)
+same-lengths [] (y ∷ t) h = refl
+same-lengths (x ∷ s) [] h = refl
+same-lengths (x ∷ s) (y ∷ t) h = rw (same-lengths s t (λ e. h (ap suc e))) (and-false (eqb x y))
+
 -- ---- a case, field after field
-module _ (line : List ℕ) where
-  pub case-no-name : wrongName (fieldAt line 0) ≡ true → caseOf line ≡ Malformed
+module _ (call : Call) (line : List ℕ) (at : ℕ) where
+  pub case-no-name : wrongName (fieldAt line at) ≡ true → caseOf call line at ≡ Malformed
   unfolding caseOf
   case-no-name h = rw (caseOf, h)
 
-  module _ (named : wrongName (fieldAt line 0) ≡ false) {p : ℕ} (first : p ≡ afterFrom space line 0) where
-    pub case-no-left : numberOf (fieldAt line p) ≡ Not → caseOf line ≡ Malformed
+  module _ (named : wrongName (fieldAt line at) ≡ false) {p : ℕ} (first : p ≡ afterFrom space line at) where
+    pub case-no-left : numberOf (fieldAt line p) ≡ Not → caseOf call line at ≡ Malformed
     unfolding caseOf
     case-no-left h = rw (caseOf, named, sym first, h)
 
     module _ {q l : ℕ} (left : numberOf (fieldAt line p) ≡ Is l) (second : q ≡ afterFrom space line p) where
-      pub case-no-right : numberOf (fieldAt line q) ≡ Not → caseOf line ≡ Malformed
+      pub case-no-right : numberOf (fieldAt line q) ≡ Not → caseOf call line at ≡ Malformed
       unfolding caseOf
       case-no-right h = rw (caseOf, named, sym first, left, sym second, h)
 
       pub case-holds : {r d : ℕ} → numberOf (fieldAt line q) ≡ Is r → d ≡ afterFrom space line q
-          → caseOf line ≡ Holds (record { name = endFrom space line 0; left = l; right = r; digits = d })
+          → caseOf call line at ≡ Holds (record { call = call; name = at; until = endFrom space line at; left = l; right = r; digits = d })
       unfolding caseOf
       case-holds h third = rw (caseOf, named, sym first, left, sym second, h, sym third)
+
+-- ---- a line whose first field names a call, and one whose does not
+module _ (line : List ℕ) (kept : passedOver line ≡ false) where
+  pub line-unknown : callOf (fieldAt line 0) ≡ Unknown → lineOf line ≡ Malformed
+  line-unknown h = rw (kept, h)
+
+  pub line-named : {call : Call} → callOf (fieldAt line 0) ≡ Names call → lineOf line ≡ caseOf call line (afterFrom space line 0)
+  line-named h = rw (kept, h)
 
 -- ---- what callers lend is within
 -- the bytes that were decoded are within the slice
@@ -157,28 +193,35 @@ decoded-inside {ds} {before} {after} {r} {n} d e = go (undecodable ds before) re
         omega (arith, ap length g, length-append (bytesOf ds) (drop (length ds / 2) before), tabulate-length (byteOf ds) (length ds / 2))
 
 -- a case's name and digits are on its line
-pub case-inside : (line : List ℕ) {k : Case} → lineOf line ≡ Holds k → (k .name ≤ length line) × (k .digits ≤ length line)
-case-inside line {k} e =
-    go (passedOver line) refl (wrongName (fieldAt line 0)) refl (numberOf (fieldAt line (afterFrom space line 0))) refl
-    (numberOf (fieldAt line (afterFrom space line (afterFrom space line 0)))) refl
+pub case-inside : (line : List ℕ) {k : Case} → lineOf line ≡ Holds k → Inside line k
+case-inside line {k} e = go (passedOver line) refl (callOf (fieldAt line 0)) refl
   where
     never : {A : Type 0} (l : Line) → l ≡ Holds k → l ≡ Malformed → A
     never l f g = let z : _≡_ {A = ℕ} 0 1 = cc in absurd (omega arith)
 
-    go : (t : Bool) → passedOver line ≡ t → (w : Bool) → wrongName (fieldAt line 0) ≡ w
-        → (l : Parsed) → numberOf (fieldAt line (afterFrom space line 0)) ≡ l → (r : Parsed) → numberOf (fieldAt line (afterFrom space line (afterFrom space line 0))) ≡ r
-        → (k .name ≤ length line) × (k .digits ≤ length line)
-    go true h w hw l hl r hr =
+    held : (call : Call) (at : ℕ) → at ≤ length line → caseOf call line at ≡ Holds k → (w : Bool) → wrongName (fieldAt line at) ≡ w
+        → (l : Parsed) → numberOf (fieldAt line (afterFrom space line at)) ≡ l
+        → (r : Parsed) → numberOf (fieldAt line (afterFrom space line (afterFrom space line at))) ≡ r → Inside line k
+    held call at h f true hw l hl r hr = never (caseOf call line at) f (case-no-name call line at hw)
+    held call at h f false hw Not hl r hr = never (caseOf call line at) f (case-no-left call line at hw refl hl)
+    held call at h f false hw (Is l) hl Not hr = never (caseOf call line at) f (case-no-right call line at hw refl hl refl hr)
+    held call at h f false hw (Is l) hl (Is r) hr =
+        let d = afterFrom space line (afterFrom space line (afterFrom space line at)) in
+        let i : record { call = call; name = at; until = endFrom space line at; left = l; right = r; digits = d } ≡ k =
+        cc (case-holds call line at hw refl hl refl hr refl) in
+        record {
+          begins = omega (arith, ap (λ (x : Case). x .name) i, ap (λ (x : Case). x .until) i);
+          ends = omega (arith, ap (λ (x : Case). x .until) i, end-within space line at h);
+          digits = omega (arith, ap (λ (x : Case). x .digits) i);
+        }
+
+    go : (t : Bool) → passedOver line ≡ t → (m : Called) → callOf (fieldAt line 0) ≡ m → Inside line k
+    go true h m hm =
         let e' : Passed ≡ Holds k = rw h at e in
         let z : _≡_ {A = ℕ} 0 1 = cc in
         absurd (omega arith)
-    go false h true hw l hl r hr = never (caseOf line) (rw h at e) (case-no-name line hw)
-    go false h false hw Not hl r hr = never (caseOf line) (rw h at e) (case-no-left line hw refl hl)
-    go false h false hw (Is l) hl Not hr = never (caseOf line) (rw h at e) (case-no-right line hw refl hl refl hr)
-    go false h false hw (Is l) hl (Is r) hr =
-        let e' : caseOf line ≡ Holds k = rw h at e in
-        let d = afterFrom space line (afterFrom space line (afterFrom space line 0)) in
-        let i : record { name = endFrom space line 0; left = l; right = r; digits = d } ≡ k = cc (case-holds line hw refl hl refl hr refl) in (
-          omega (arith, ap (λ (x : Case). x .name) i, end-within space line 0 (omega arith)),
-          omega (arith, ap (λ (x : Case). x .digits) i),
-        )
+    go false h Unknown hm = never (lineOf line) e (line-unknown line h hm)
+    go false h (Names call) hm =
+        let at = afterFrom space line 0 in
+        held call at (omega arith) (sym (line-named line h hm) ∙ e) (wrongName (fieldAt line at)) refl (numberOf (fieldAt line (afterFrom space line at))) refl
+        (numberOf (fieldAt line (afterFrom space line (afterFrom space line at)))) refl

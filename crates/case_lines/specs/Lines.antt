@@ -2,17 +2,22 @@
 use mathlib.Core.Path.{_≡_}
 use mathlib.Core.Bool.{Bool, cond, not, _&&_, _||_}
 use mathlib.Core.List.{List, [], _∷_, _++_}
-use Prim.Native.Nat.{ℕ, suc, _+_, _*_, _-_, _/_, _%_, min}
+use Prim.Native.Nat.{ℕ, suc, _+_, _*_, _-_, _/_, _%_, _≤_, min}
 use lib.ListN.{length, getD, take, drop}
 use lib.Dec.{eqb, leb, ltb}
-use Rattle.lists.specs.Members.{all}
-use Rattle.lists.specs.Tables.{tabulate}
-use Rattle.lines.specs.Decimal.{value}
-use Rattle.lines.specs.Lines.{space}
+use Rattle.lists.specs.Lists.{all, sameNumbers}
+use Rattle.list_laws.specs.Tabulate.{tabulate}
+use Rattle.printed_lines.specs.Decimal.{value}
+use Rattle.printed_lines.specs.Lines.{space}
 use Rattle.case_lines.specs.declared.Class.{Class}
 use Rattle.case_lines.specs.declared.Class.the-variants.{Digit, Hex, Name}
 use Rattle.case_lines.specs.declared.Parsed.{Parsed}
 use Rattle.case_lines.specs.declared.Parsed.the-variants.{Is, Not}
+use Rattle.case_lines.specs.declared.Call.{Call}
+use Rattle.case_lines.specs.declared.Call.the-variants.{Read, Set, Compare}
+use Rattle.case_lines.specs.declared.Called.{Called}
+use Rattle.case_lines.specs.declared.Called.the-variants.{Names, Unknown}
+use Rattle.case_lines.specs.declared.Case.{Case}
 use Rattle.case_lines.specs.declared.Line.{Line}
 use Rattle.case_lines.specs.declared.Line.the-variants.{Passed, Malformed, Holds}
 
@@ -92,22 +97,52 @@ hash = 35
 abbrev pub passedOver : List ℕ → Bool
 passedOver line = eqb (length line) 0 || eqb (getD line 0 0) hash
 
-abbrev pub withNumbers : ℕ → ℕ → Parsed → Parsed → Line
-withNumbers name digits (Is l) (Is r) = Holds (record { name = name; left = l; right = r; digits = digits })
-withNumbers name digits (Is l) Not = Malformed
-withNumbers name digits Not r = Malformed
+-- read
+abbrev pub readName : List ℕ
+readName = 114 ∷ 101 ∷ 97 ∷ 100 ∷ []
+
+-- set
+abbrev pub setName : List ℕ
+setName = 115 ∷ 101 ∷ 116 ∷ []
+
+-- compare
+abbrev pub compareName : List ℕ
+compareName = 99 ∷ 111 ∷ 109 ∷ 112 ∷ 97 ∷ 114 ∷ 101 ∷ []
+
+-- the call that a word names
+abbrev pub callOf : List ℕ → Called
+callOf word =
+    cond (sameNumbers word readName) (Names Read)
+    (cond (sameNumbers word setName) (Names Set) (cond (sameNumbers word compareName) (Names Compare) Unknown))
 
 -- an empty name, or a byte that a name may not have
 abbrev pub wrongName : List ℕ → Bool
 wrongName name = eqb (length name) 0 || not (all (inClass Name) name)
 
--- a name, then two numbers, then the digits
-unfoldable pub caseOf : List ℕ → Line
-caseOf line =
-    let p = afterFrom space line 0 in
+abbrev pub withNumbers : Call → ℕ → ℕ → ℕ → Parsed → Parsed → Line
+withNumbers call name end digits (Is l) (Is r) =
+    Holds (record { call = call; name = name; until = end; left = l; right = r; digits = digits })
+withNumbers call name end digits (Is l) Not = Malformed
+withNumbers call name end digits Not r = Malformed
+
+-- a name from a place on, then two numbers, then the digits
+unfoldable pub caseOf : Call → List ℕ → ℕ → Line
+caseOf call line at =
+    let p = afterFrom space line at in
     let q = afterFrom space line p in
-    cond (wrongName (fieldAt line 0)) Malformed
-    (withNumbers (endFrom space line 0) (afterFrom space line q) (numberOf (fieldAt line p)) (numberOf (fieldAt line q)))
+    cond (wrongName (fieldAt line at)) Malformed
+    (withNumbers call at (endFrom space line at) (afterFrom space line q) (numberOf (fieldAt line p)) (numberOf (fieldAt line q)))
+
+-- a case of the call that the first field names
+abbrev pub calledCase : Called → List ℕ → Line
+calledCase (Names call) line = caseOf call line (afterFrom space line 0)
+calledCase Unknown line = Malformed
 
 abbrev pub lineOf : List ℕ → Line
-lineOf line = cond (passedOver line) Passed (caseOf line)
+lineOf line = cond (passedOver line) Passed (calledCase (callOf (fieldAt line 0)) line)
+
+-- a case's name and digits are on its line
+pub record Inside (line : List ℕ) (case : Case) : Type 0 where
+  pub begins : case .name ≤ case .until
+  pub ends : case .until ≤ length line
+  pub digits : case .digits ≤ length line

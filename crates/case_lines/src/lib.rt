@@ -1,14 +1,14 @@
-// Lines of a list of cases: a name, a left and a right start number in decimal, and a sheet as hex digits, parted by one
-// space each. A line that is empty or begins with # is passed over.
+// Lines of a list of cases: the call that is meant, a name, a left and a right start number in decimal, and a sheet as hex
+// digits, parted by one space each. A line that is empty or begins with # is passed over.
 ghost use mathlib.Core.Path.{_≡_};
 ghost use mathlib.Core.Bool.{true};
 ghost use mathlib.Core.List.{_++_};
 ghost use Prim.Native.Nat.{_*_, _≤_, _<_};
 ghost use lib.ListN.{length, drop};
-ghost use Rattle.lists.specs.Members.{all};
-ghost use Rattle.lists.specs.Tables.{tabulate};
-ghost use Rattle.lines.specs.Decimal.{value};
-ghost use Rattle.case_lines.specs.Lines.{endFrom, afterFrom, fieldAt, between, dashOrLetter, inClass, hexDigit, byteOf, mostDigits, numberOf, wrongName, Decoded, passedOver, caseOf, lineOf};
+ghost use Rattle.lists.specs.Lists.{all, sameNumbers};
+ghost use Rattle.list_laws.specs.Tabulate.{tabulate};
+ghost use Rattle.printed_lines.specs.Decimal.{value};
+ghost use Rattle.case_lines.specs.Lines.{endFrom, afterFrom, fieldAt, between, dashOrLetter, inClass, hexDigit, byteOf, mostDigits, numberOf, callOf, wrongName, Decoded, passedOver, caseOf, lineOf};
 
 const SPACE: u8 = 32;
 
@@ -18,7 +18,7 @@ const HASH: u8 = 35;
 const MOST_DIGITS: usize = 19;
 
 // What a byte may be: a decimal digit, a hex digit, a byte of a name.
-pub enum Class {
+enum Class {
     Digit,
     Hex,
     Name,
@@ -30,9 +30,24 @@ pub enum Parsed {
     Not,
 }
 
-// A case: its name's length, its two start numbers, and the place of its sheet's digits.
+// What is asked of a sheet: to read it, the set of its two starts, or to compare them.
+pub enum Call {
+    Read,
+    Set,
+    Compare,
+}
+
+// The call that a word names.
+enum Called {
+    Names(Call),
+    Unknown,
+}
+
+// A case: its call, where its name begins and ends, its two start numbers, and the place of its sheet's digits.
 pub struct Case {
+    pub call: Call,
     pub name: usize,
+    pub until: usize,
     pub left: usize,
     pub right: usize,
     pub digits: usize,
@@ -117,7 +132,7 @@ fn value(s: &[u8]) -> usize
 }
 
 // A number in decimal.
-pub fn number(s: &[u8]) -> Parsed
+fn number(s: &[u8]) -> Parsed
     ensures { λ r. ⌜ r ≡ numberOf (now (s .entry)) ⌝ }
 {
     if s.len() == 0 {
@@ -192,14 +207,57 @@ fn number_at(line: &[u8], at: usize) -> Parsed
     number(&line[at..e])
 }
 
-fn case_of(line: &[u8]) -> Line
-    ensures { λ r. ⌜ r ≡ caseOf (now (line .entry)) ⌝ }
+// Whether the name that stands at a place of a line is none.
+fn wrong_name_at(line: &[u8], at: usize) -> bool
+    requires { ⌜ at ≤ length (now line) ⌝ }
+    ensures { λ r. ⌜ r ≡ wrongName (fieldAt (now (line .entry)) at) ⌝ }
 {
-    let name = end_from(line, 0, SPACE);
-    if wrong_name(&line[..name]) {
+    let e = end_from(line, at, SPACE);
+    wrong_name(&line[at..e])
+}
+
+// Whether bytes are those of a word.
+fn is_word(s: &[u8], word: &[u8]) -> bool
+    ensures { λ r. ⌜ r ≡ sameNumbers (now (s .entry)) (now (word .entry)) ⌝ }
+{
+    if s.len() != word.len() {
+        return false;
+    }
+    let mut i: usize = 0;
+    while i < word.len() {
+        if s[i] != word[i] {
+            return false;
+        }
+        i += 1;
+    }
+    true
+}
+
+fn call_of(word: &[u8]) -> Called
+    ensures { λ r. ⌜ r ≡ callOf (now (word .entry)) ⌝ }
+{
+    if is_word(word, b"read") {
+        return Called::Names(Call::Read);
+    }
+    if is_word(word, b"set") {
+        return Called::Names(Call::Set);
+    }
+    if is_word(word, b"compare") {
+        return Called::Names(Call::Compare);
+    }
+    Called::Unknown
+}
+
+// The case of a call whose name stands at a place of a line.
+fn case_of(call: Call, line: &[u8], at: usize) -> Line
+    requires { ⌜ at ≤ length (now line) ⌝ }
+    ensures { λ r. ⌜ r ≡ caseOf call (now (line .entry)) at ⌝ }
+{
+    if wrong_name_at(line, at) {
         return Line::Malformed;
     }
-    let p = after_from(line, 0, SPACE);
+    let until = end_from(line, at, SPACE);
+    let p = after_from(line, at, SPACE);
     let l = number_at(line, p);
     let Parsed::Is(left) = l else {
         return Line::Malformed;
@@ -211,7 +269,9 @@ fn case_of(line: &[u8]) -> Line
     };
     let digits = after_from(line, q, SPACE);
     Line::Holds(Case {
-        name,
+        call,
+        name: at,
+        until,
         left,
         right,
         digits,
@@ -225,5 +285,10 @@ pub fn line_of(line: &[u8]) -> Line
     if passed_over(line) {
         return Line::Passed;
     }
-    case_of(line)
+    let word = end_from(line, 0, SPACE);
+    let called = call_of(&line[..word]);
+    let Called::Names(call) = called else {
+        return Line::Malformed;
+    };
+    case_of(call, line, after_from(line, 0, SPACE))
 }

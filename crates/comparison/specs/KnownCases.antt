@@ -1,27 +1,27 @@
 -- Document 01, "Known sheets": the starred cases and the others that compute quickly, and choices of the document that follow
 -- from no theorem, a row each; one statement proves them all. A step's places are those of the set in its order, as document 01
 -- prints them for [2] and [4].
-use mathlib.Core.Path.{_≡_, refl}
-use mathlib.Core.Bool.{Bool, true, false, not}
-use mathlib.Core.List.{List, [], _∷_, _++_, map, List·Memᴰ}
+use mathlib.Core.Bool.{Bool, not}
+use mathlib.Core.List.{List, [], _∷_, _++_, map}
 use Prim.Native.Nat.{ℕ}
 use lib.ListN.{length, take, drop, replicate}
 use lib.Dec.{T, eqb}
-use Rattle.lists.specs.Members.{select, all, all-yes, concatMap, sameNumbers, same-equal}
+use Rattle.lists.specs.Lists.{select, all, concatMap, sameNumbers}
 use Rattle.stores.specs.Stores.{closure, passes, pass, conclusions}
 use Rattle.sheets.specs.Sheet.{Configuration, Sheet, openWithin}
 use Rattle.sheets.specs.Reading.{recordsFrom, countAt, setAt, nameBytes, nameAt, namesFrom, factsAt, premiseAt, ruleAt, rulesAt, kindAt, firstAt, secondAt, nodeAt, nodesAt, threadAt, threadsFrom, startAt, startsAt, readSheet, readChoice}
 use Rattle.moves.specs.Moves.{labels, stepsWithin, moves}
-use Rattle.comparison.specs.Limits.{limits, workLength, noReply, reportRoom}
+use Rattle.comparison.specs.CallLimits.{limits, workLength, noReply, reportRoom}
 use Rattle.comparison.specs.Classes.{placeOf, numberedFrom}
 use Rattle.comparison.specs.Set.{exploredFrom, explored}
 use Rattle.comparison.specs.Rounds.{refined, classes, roundsFrom, rounds}
 use Rattle.comparison.specs.Trail.{TrailStep, trailFrom}
 use Rattle.comparison.specs.Report.{Verdict, SAME, DIFF, sideByte, replyNumber, reportOn, reportBytes}
-use Rattle.comparison.specs.Call.{Outcome, reported, refusal, compareWith, compare, answerAfter, workAfter}
+use Rattle.comparison.specs.Frame.{reported, refusal, workAfter}
+use Rattle.comparison.specs.Call.{Compares, compareWith, compare, answerAfter}
 use Rattle.comparison.specs.Print.{printed}
-use Rattle.lines.specs.Decimal.{decimal, decimalWithin}
-use Rattle.comparison.specs.KnownSheets.{bytesOfK, bytesOfGrowing, bytesOfReplies, bytesOfTies, bytesOfWide, bytesOfPaper, bytesOfFacts, bytesOfThreads, bytesOfTwoMore, sheetK, sheetL, sheetInside}
+use Rattle.printed_lines.specs.Decimal.{decimal, decimalWithin}
+use Rattle.comparison.specs.KnownSheets.{bytesOfK, bytesOfGrowing, bytesOfReplies, bytesOfTies, bytesOfWide, bytesOfPaper, bytesOfFacts, bytesOfThreads, bytesOfTwoMore, sheetK, sheetL}
 
 -- what the definitions give, and what document 01 says, as numbers
 pub record Row : Type 0 where
@@ -41,7 +41,7 @@ verdictNumber SAME = 0
 verdictNumber DIFF = 1
 
 -- whole: verdict, round, the places of both starts and the answer bytes; or 2, number and place of a refusal
-abbrev pub whole : Outcome → List ℕ
+abbrev pub whole : Compares → List ℕ
 whole (reported r) = verdictNumber (r .verdict) ∷ r .round ∷ r .leftPlace ∷ r .rightPlace ∷ reportBytes r
 whole (refusal number place) = 2 ∷ number ∷ place ∷ []
 
@@ -50,23 +50,17 @@ abbrev pub stepNumbers : List Configuration → TrailStep → List ℕ
 stepNumbers set s = sideByte (s .side) ∷ s .label ∷ placeOf set (s .target) ∷ replyNumber set (s .reply) ∷ []
 
 -- verdict, round and the steps of the trail; or 2, number and place of a refusal
-abbrev pub brief : Outcome → List ℕ
+abbrev pub brief : Compares → List ℕ
 brief (reported r) = verdictNumber (r .verdict) ∷ r .round ∷ concatMap (stepNumbers (r .members)) (r .steps)
 brief (refusal number place) = 2 ∷ number ∷ place ∷ []
 
 -- two starts of a sheet compared, with the slices that document 01 asks for
-abbrev pub compared : List ℕ → ℕ → ℕ → Outcome
+abbrev pub compared : List ℕ → ℕ → ℕ → Compares
 compared bytes left right = compare bytes left right workLength (reportRoom limits)
 
 -- the labels of a node alone at a store
 abbrev pub labelsAt : Sheet → ℕ → ℕ → List ℕ
 labelsAt sheet store k = map (λ m. m .label) (moves sheet (record { store = store; threads = k ∷ [] }))
-
--- its moves: label, store, thread count and threads of each
-abbrev pub movesAt : Sheet → ℕ → ℕ → List ℕ
-movesAt sheet store k =
-    concatMap (λ m. m .label ∷ m .target .store ∷ length (m .target .threads) ∷ m .target .threads)
-    (moves sheet (record { store = store; threads = k ∷ [] }))
 
 -- the stores that it leads to
 abbrev pub storesAt : Sheet → ℕ → ℕ → List ℕ
@@ -91,7 +85,7 @@ abbrev pub nines : ℕ → List ℕ
 nines n = replicate n 9
 
 -- two starts of a sheet compared with other limits
-abbrev pub comparedWithin : ℕ → ℕ → ℕ → List ℕ → ℕ → ℕ → Outcome
+abbrev pub comparedWithin : ℕ → ℕ → ℕ → List ℕ → ℕ → ℕ → Compares
 comparedWithin members threads moves bytes left right =
     compareWith (record { members = members; threads = threads; moves = moves }) bytes left right workLength (reportRoom limits)
 
@@ -226,10 +220,6 @@ table =
     ∷ row (brief (compared (bytesOfThreads 8) 0 1)) (sameIn 8)
     ∷ row (brief (compared (bytesOfThreads 9) 0 1)) (refusedAs 12 11)
     ∷ row (brief (compared [] 0 1)) (refusedAs 1 0)
-    -- ---- not starred: a both inside an either. Node 5: 1 moves beside 2, 2 beside 1, or 4 alone
-    ∷ row (movesAt sheetInside 0 5) (0 ∷ 1 ∷ 1 ∷ 2 ∷ 0 ∷ 2 ∷ 1 ∷ 1 ∷ 0 ∷ 4 ∷ 0 ∷ [])
-    -- inside another both. Node 7: each of the three moves beside the other two
-    ∷ row (movesAt sheetInside 0 7) (0 ∷ 1 ∷ 2 ∷ 2 ∷ 3 ∷ 0 ∷ 2 ∷ 2 ∷ 1 ∷ 3 ∷ 0 ∷ 4 ∷ 2 ∷ 1 ∷ 2 ∷ [])
     -- ---- not starred: trails. Two replies that tie, at stores 2 and 4: the earlier one; the left moves, though the right could
     ∷ row (brief (compared bytesOfTies 0 1)) (diffIn 1 (step 0 0 2 3 ∷ []))
     -- two moves without an answer, to stores 2 and 4: the first one
@@ -277,11 +267,3 @@ table =
 pub all-right : T (all right table)
 unfolding closure passes pass conclusions moves stepsWithin labels openWithin readSheet readChoice recordsFrom countAt setAt nameBytes nameAt namesFrom factsAt premiseAt ruleAt rulesAt kindAt firstAt secondAt nodeAt nodesAt threadAt threadsFrom startAt startsAt numberedFrom refined classes roundsFrom rounds exploredFrom explored trailFrom reportOn compareWith decimal decimalWithin
 all-right = tt
-
-holds-true : (b : Bool) → T b → b ≡ true
-holds-true true h = refl
-holds-true false h = absurd h
-
--- so in each row the two are equal
-pub row-right : (r : Row) → List·Memᴰ r table → r .computed ≡ r .wanted
-row-right r m = same-equal (r .computed) (r .wanted) (all-yes right table (holds-true (all right table) all-right) m)

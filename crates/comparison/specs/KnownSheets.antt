@@ -3,11 +3,9 @@ use mathlib.Core.Path.{_≡_, refl}
 use mathlib.Core.List.{List, [], _∷_, _++_}
 use Prim.Native.Nat.{ℕ, zero, suc, _/_, _%_}
 use lib.ListN.{length}
-use Rattle.lists.specs.Members.{concatMap}
+use Rattle.lists.specs.Lists.{concatMap}
 use Rattle.stores.specs.Stores.{Rule, closure, passes, pass, conclusions}
 use Rattle.sheets.specs.Sheet.{stop, tell, ask, both, either, Sheet, openWithin}
-use Rattle.sheets.specs.WellFormed.{WellFormed}
-use Rattle.sheets.specs.ReadingLaws.{read-well-formed}
 use Rattle.sheets.specs.Reading.{got, recordsFrom, countAt, setAt, nameBytes, nameAt, namesFrom, factsAt, premiseAt, ruleAt, rulesAt, kindAt, firstAt, secondAt, nodeAt, nodesAt, threadAt, threadsFrom, startAt, startsAt, readSheet}
 
 -- ---- records as bytes
@@ -122,12 +120,6 @@ pub l-reads : readSheet bytesOfL ≡ got sheetL (length bytesOfL)
 unfolding readSheet recordsFrom countAt setAt nameBytes nameAt namesFrom factsAt premiseAt ruleAt rulesAt kindAt firstAt secondAt nodeAt nodesAt threadAt threadsFrom startAt startsAt openWithin closure passes pass conclusions
 l-reads = refl
 
-pub k-well-formed : WellFormed sheetK
-k-well-formed = read-well-formed bytesOfK sheetK (length bytesOfK) k-reads
-
-pub l-well-formed : WellFormed sheetL
-l-well-formed = read-well-formed bytesOfL sheetL (length bytesOfL) l-reads
-
 -- ---- a sheet whose trail has a choice of replies: node 7 may become two tells, one tell or nothing, node 6 one tell or
 -- nothing. Its starts, 0 and 1: [7] and [6].
 abbrev pub bytesOfReplies : List ℕ
@@ -150,16 +142,6 @@ bytesOfWide =
     section (times 9 (nameBytesOf 48))
     ++ (section (rule 256 2 ∷ rule 4 511 ∷ rule 8 511 ∷ rule 16 511 ∷ rule 32 511 ∷ rule 64 511 ∷ rule 128 511 ∷ [])
     ++ (section (node 0 0 0 ∷ node 1 0 0 ∷ node 2 256 1 ∷ node 2 256 0 ∷ node 4 2 3 ∷ []) ++ section (start 0 (2 ∷ []) ∷ start 0 (4 ∷ []) ∷ [])))
-
--- ---- a both inside an either (node 5), and inside another both in an either (node 7); its tells are 1, 2 and 4
-abbrev pub sheetInside : Sheet
-sheetInside =
-    record {
-      facts = 3;
-      rules = [];
-      nodes = stop ∷ tell 1 ∷ tell 2 ∷ tell 4 ∷ both 1 2 ∷ either 4 3 ∷ both 4 3 ∷ either 6 0 ∷ [];
-      starts = [];
-    }
 
 -- ---- the paper's running example. Facts 0 to 4: z < 7, z < 5, x < 7, x < 5, y = 1; z < 5 gives z < 7, and x < 5 gives x < 7.
 -- Nodes 0 to 11: T, P, Q, P + Q, R, S, R + S, T', Q', P + Q', R', R' + S. Its starts, 0 to 2: S, R + S, R' + S.

@@ -3,14 +3,15 @@
 use mathlib.Core.List.{List, [], _∷_, _++_}
 use Prim.Native.Nat.{ℕ}
 use lib.ListN.{length}
-use Rattle.lists.specs.Members.{concatMap}
-use Rattle.lines.specs.Decimal.{decimal}
-use Rattle.lines.specs.Lines.{space, lineFeed, field, line, refusedWord}
+use Rattle.lists.specs.Lists.{concatMap}
+use Rattle.printed_lines.specs.Decimal.{decimal}
+use Rattle.printed_lines.specs.Lines.{space, lineFeed, field, line, refusedWord}
 use Rattle.sheets.specs.Sheet.{Configuration}
 use Rattle.comparison.specs.Classes.{placeOf, classOf}
 use Rattle.comparison.specs.Trail.{Side, left, right, Reply, none, move, TrailStep}
 use Rattle.comparison.specs.Report.{Verdict, SAME, DIFF}
-use Rattle.comparison.specs.Call.{Outcome, reported, refusal}
+use Rattle.comparison.specs.Frame.{reported, refusal}
+use Rattle.comparison.specs.Call.{Compares}
 
 -- SAME or DIFF
 abbrev pub verdictWord : Verdict → List ℕ
@@ -63,7 +64,7 @@ stepLine set s =
     (sideLetter (s .side) ∷ []) ++ field (s .label) ++ field (placeOf set (s .target)) ++ (space ∷ replyText set (s .reply)) ++ (lineFeed ∷ [])
 
 -- verdict and round; the members; the steps; or the refusal
-abbrev pub printed : Outcome → List ℕ
+abbrev pub printed : Compares → List ℕ
 printed (reported r) =
     line (verdictWord (r .verdict)) (r .round ∷ [])
     ++ line configurationsWord (length (r .members) ∷ [])

@@ -7,19 +7,19 @@ use mathlib.Core.Bool.{true}
 use mathlib.Core.List.{List, [], _∷_, List·Memᴰ}
 use Prim.Native.Nat.{ℕ, suc, _≤_, _<_}
 use lib.ListN.{length, getD}
-use Rattle.lists.specs.Ascending.{Ascends}
-use Rattle.lists.specs.Counting.{MoreThan}
+use Rattle.lists.specs.Lists.{Ascends, MoreThan}
+use Rattle.sheets.specs.Refusals.{largeSet, shortAnswer, shortWork}
 use Rattle.sheets.specs.Sheet.{Configuration, Sheet}
 use Rattle.sheets.specs.Reading.{got, refused, readChoice}
-use Rattle.moves.specs.Orders.{Move, configurationOrder}
+use Rattle.moves.specs.Orders.{Move, configurationBefore}
 use Rattle.moves.specs.Moves.{moves, Moves}
-use Rattle.comparison.specs.Limits.{Limits, workLength}
+use Rattle.comparison.specs.CallLimits.{Limits, workLength}
 use Rattle.comparison.specs.Set.{explored}
 use Rattle.comparison.specs.Classes.{share}
 use Rattle.comparison.specs.Trail as trail
 use Rattle.comparison.specs.Trail.{TrailStep}
 use Rattle.comparison.specs.Report.{SAME, DIFF, Report, reportOn, reportLength}
-use Rattle.comparison.specs.Call.{start}
+use Rattle.comparison.specs.Frame.{start}
 use Rattle.refinement.specs.Refinement.{Member, Redundant, Round, Level, TellsApart, Bisimilar, FirstApart}
 use Rattle.comparison.specs.SheetTransitions.{transitions}
 
@@ -78,7 +78,7 @@ pub data Walkable (sheet : Sheet) : ℕ → Configuration → Configuration → 
 -- What a report on two starts p and q says. Demand 3, sentence by sentence.
 pub record Faithful (sheet : Sheet) (p q : Configuration) (r : Report) : Type 1 where
   -- the report lists the set whole, each member once and in its order
-  pub ordered : Ascends configurationOrder (r .members)
+  pub ordered : Ascends configurationBefore (r .members)
   pub whole : (x : Configuration) → List·Memᴰ x (r .members) ↔ Member (transitions sheet) (p ∷ q ∷ []) x
   -- two members share a class there exactly when a saturated barbed bisimulation contains the two as a pair
   pub classes : (x y : Configuration) → List·Memᴰ x (r .members) → List·Memᴰ y (r .members)
@@ -130,14 +130,14 @@ pub data Refuses (l : Limits) (bytes : List ℕ) (left right work answer : ℕ) 
   -- by the sheet or the choice, handed up unaltered
   by-sheet : {number place : ℕ} → readChoice bytes left right ≡ refused number place → Refuses l bytes left right work answer number place
   -- 23: the work slice is too short
-  short-work : (sheet : Sheet) (end : ℕ) → readChoice bytes left right ≡ got sheet end → work < workLength → Refuses l bytes left right work answer 23 0
+  short-work : (sheet : Sheet) (end : ℕ) → readChoice bytes left right ≡ got sheet end → work < workLength → Refuses l bytes left right work answer shortWork 0
   -- 21: the set itself passes a limit
   large-set : (sheet : Sheet) (end : ℕ) → readChoice bytes left right ≡ got sheet end → workLength ≤ work
-      → PassesLimit sheet l (startsOf sheet left right) → Refuses l bytes left right work answer 21 0
+      → PassesLimit sheet l (startsOf sheet left right) → Refuses l bytes left right work answer largeSet 0
   -- 22: the answer slice is shorter than the report, at the length needed
   short-answer : (sheet : Sheet) (end : ℕ) → readChoice bytes left right ≡ got sheet end → workLength ≤ work
       → (PassesLimit sheet l (startsOf sheet left right) → ⊥) → answer < reportLength (reportFor l sheet left right)
-      → Refuses l bytes left right work answer 22 (reportLength (reportFor l sheet left right))
+      → Refuses l bytes left right work answer shortAnswer (reportLength (reportFor l sheet left right))
 
 -- When the call reports, and what.
 pub record Reports (l : Limits) (bytes : List ℕ) (left right work answer : ℕ) (r : Report) : Type 0 where

@@ -4,9 +4,9 @@ use mathlib.Core.List.{List, [], _∷_, _++_}
 use Prim.Native.Nat.{ℕ, _/_, _%_}
 use lib.ListN.{length, getD}
 use lib.Dec.{eqb}
-use Rattle.lists.specs.Members.{concatMap}
+use Rattle.lists.specs.Lists.{concatMap}
 use Rattle.sheets.specs.Sheet.{Configuration, Sheet}
-use Rattle.comparison.specs.Limits.{noReply}
+use Rattle.comparison.specs.CallLimits.{noReply}
 use Rattle.comparison.specs.Classes.{placeOf, classOf}
 use Rattle.comparison.specs.Rounds.{rounds, resultOf, apartIn}
 use Rattle.comparison.specs.Trail.{Side, left, right, Reply, none, move, TrailStep, trail}

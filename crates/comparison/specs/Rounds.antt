@@ -4,7 +4,7 @@ use mathlib.Core.List.{List, [], _∷_}
 use Prim.Native.Nat.{ℕ, zero, suc, _-_}
 use lib.ListN.{length}
 use lib.Dec.{eqb}
-use Rattle.lists.specs.Members.{any, all, sameNumbers}
+use Rattle.lists.specs.Lists.{any, all, sameNumbers}
 use Rattle.stores.specs.Stores.{strictlyBelow}
 use Rattle.sheets.specs.Sheet.{Configuration, Sheet}
 use Rattle.moves.specs.Orders.{Move}

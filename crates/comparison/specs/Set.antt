@@ -5,13 +5,12 @@ use mathlib.Core.List.{List, [], _∷_, _++_, map}
 use Prim.Native.Nat.{ℕ, zero, suc, _+_}
 use lib.ListN.{length}
 use lib.Dec.{eqb, leb, ltb}
-use Rattle.lists.specs.Members.{select, any, concatMap}
-use Rattle.lists.specs.Ascending.{arrange}
+use Rattle.lists.specs.Lists.{select, any, concatMap, arrange}
 use Rattle.stores.specs.Stores.{strictlyBelow}
 use Rattle.sheets.specs.Sheet.{Configuration, Sheet}
-use Rattle.moves.specs.Orders.{Move, configurationOrder}
+use Rattle.moves.specs.Orders.{Move, configurationBefore}
 use Rattle.moves.specs.Moves.{moves, add}
-use Rattle.comparison.specs.Limits.{Limits}
+use Rattle.comparison.specs.CallLimits.{Limits}
 
 -- the targets of the moves k with a label strictly below that of m, with m's label added
 abbrev pub addedBelow : Sheet → List Move → Move → List Configuration
@@ -24,7 +23,7 @@ reached sheet p = let ms = moves sheet p in map (λ m. m .target) ms ++ concatMa
 
 -- the set with all that its members bring
 abbrev pub grown : Sheet → List Configuration → List Configuration
-grown sheet set = arrange configurationOrder (set ++ concatMap (reached sheet) set)
+grown sheet set = arrange configurationBefore (set ++ concatMap (reached sheet) set)
 
 -- too many members, or a member of too many threads
 abbrev pub over : Limits → List Configuration → Bool
@@ -43,7 +42,7 @@ exploredFrom (suc n) sheet l set =
 
 -- The set that grows from the seeds, in ascending order. Each growth but the last adds a member.
 unfoldable pub explored : Sheet → Limits → List Configuration → List Configuration
-explored sheet l seeds = exploredFrom (suc (l .members)) sheet l (arrange configurationOrder seeds)
+explored sheet l seeds = exploredFrom (suc (l .members)) sheet l (arrange configurationBefore seeds)
 
 -- the moves of all members together, equal ones of one member counted once
 abbrev pub moveCount : Sheet → List Configuration → ℕ

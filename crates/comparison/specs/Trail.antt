@@ -4,7 +4,7 @@ use mathlib.Core.List.{List, [], _∷_}
 use Prim.Native.Nat.{ℕ, zero, suc, _-_}
 use lib.ListN.{length, getD}
 use lib.Dec.{eqb, ltb}
-use Rattle.lists.specs.Members.{select}
+use Rattle.lists.specs.Lists.{select}
 use Rattle.sheets.specs.Sheet.{Configuration, Sheet}
 use Rattle.moves.specs.Orders.{Move}
 use Rattle.moves.specs.Moves.{moves}

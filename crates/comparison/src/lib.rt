@@ -1,1 +1,1 @@
-// The set, the rounds, the report and the whole call (document 01), the known cases, and demand 3 proved of them. No code.
+// The set, the rounds, the report, the whole call and what is promised of them (document 01): definitions and the known cases. No functions.

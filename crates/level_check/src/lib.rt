@@ -1,9 +1,17 @@
 // A report held to the levels of document 01's plain counterpart ("Rounds"), worked out over every configuration that the two
 // starts reach. Nothing but the sheet that was read is taken from the comparing call; what it returned and the members in its
-// answer bytes are what is checked.
-use held::Configuration;
-use held::Sheet;
-use thread_lists::Threads;
+// answer bytes are what is checked. That the levels are document 01's is tried and not proved.
+mod classes;
+mod members;
+
+use level_tables::areas;
+use level_tables::numbers;
+use level_tables::pairs;
+use sheet_types::Configuration;
+use sheet_types::Sheet;
+ghost use Prim.Native.Nat.{_<_, _≤_};
+ghost use Rattle.level_tables.specs.Tells.{Tells};
+ghost use Rattle.level_check.specs.Checking.{Placed, Agreed};
 
 const MOST_LEVELS: usize = 4096;
 
@@ -29,34 +37,29 @@ pub enum Checked {
 
 // The first level that is equal to the next; the first that separates the starts, or none; the first that agrees with the
 // next on the members listed. Not whole where there was no room.
-pub struct Levels {
-    pub whole: bool,
-    pub last: usize,
-    pub apart: usize,
-    pub round: usize,
-}
-
-// The numbers of both starts' configurations. Not whole where there was no room for all that they reach.
-pub struct Reached {
-    pub whole: bool,
-    pub left: usize,
-    pub right: usize,
+struct Levels {
+    whole: bool,
+    last: usize,
+    apart: usize,
+    round: usize,
 }
 
 // The level, if this is the first at which something holds.
 fn first_at(earlier: usize, holds: bool, level: usize) -> usize {
-    if earlier != plain_tables::NONE {
+    if earlier != numbers::NONE {
         return earlier;
     }
-    if holds { level } else { plain_tables::NONE }
+    if holds { level } else { numbers::NONE }
 }
 
 // Whether two configurations are in different classes.
-fn differ(numbers: &[usize], p: usize, q: usize) -> bool {
-    plain_levels::class_of(numbers, p) != plain_levels::class_of(numbers, q)
+fn differ(w: &[usize], p: usize, q: usize) -> bool {
+    classes::class_of(w, p) != classes::class_of(w, q)
 }
 
-fn no_levels() -> Levels {
+fn no_levels() -> Levels
+    ensures { λ r. ⌜ r .last < 4096 ⌝ }
+{
     Levels {
         whole: false,
         last: 0,
@@ -65,30 +68,17 @@ fn no_levels() -> Levels {
     }
 }
 
-// The levels after the first, until one is equal to the next.
-fn refine(
-    sheet: &[usize],
-    universe: &[usize],
-    reductions: &[usize],
-    numbers: &mut [usize],
-    table: &mut [usize],
-    listed: &mut [usize],
-    m: usize,
-    left: usize,
-    right: usize,
-) -> Levels {
-    let n = plain_tables::count(universe);
-    let mut apart = first_at(plain_tables::NONE, differ(numbers, left, right), 0);
-    let mut round = plain_tables::NONE;
+// The levels of n configurations after the first, until one is equal to the next; m members are listed.
+fn refine(w: &mut [usize], n: usize, m: usize, left: usize, right: usize) -> Levels
+    ensures { λ r. ⌜ r .last < 4096 ⌝ }
+{
+    let mut apart = first_at(numbers::NONE, differ(w, left, right), 0);
+    let mut round = numbers::NONE;
     let mut level: usize = 0;
     while level < MOST_LEVELS {
-        let changed = plain_levels::next_level(sheet, universe, reductions, numbers, table, n);
-        round = first_at(
-            round,
-            listed_members::show_members(numbers, table, listed, m),
-            level,
-        );
-        if changed == plain_tables::NONE {
+        let changed = classes::next_level(w, n);
+        round = first_at(round, members::show_members(w, m), level);
+        if changed == numbers::NONE {
             return no_levels();
         }
         if changed == 0 {
@@ -100,186 +90,104 @@ fn refine(
             };
         }
         level += 1;
-        apart = first_at(apart, differ(numbers, left, right), level);
+        apart = first_at(apart, differ(w, left, right), level);
     }
     no_levels()
 }
 
 // Every level.
-fn all_levels(
-    sheet: &[usize],
-    universe: &[usize],
-    reductions: &[usize],
-    numbers: &mut [usize],
-    table: &mut [usize],
-    listed: &mut [usize],
-    m: usize,
-    left: usize,
-    right: usize,
-) -> Levels {
-    if !plain_levels::first_level(universe, numbers, table, plain_tables::count(universe)) {
+fn all_levels(w: &mut [usize], n: usize, m: usize, left: usize, right: usize) -> Levels
+    ensures { λ r. ⌜ r .last < 4096 ⌝ }
+{
+    if !classes::first_level(w, n) {
         return no_levels();
     }
-    listed_members::show_members(numbers, table, listed, m);
-    refine(
-        sheet,
-        universe,
-        reductions,
-        numbers,
-        table,
-        listed,
-        m,
-        left,
-        right,
-    )
+    members::show_members(w, m);
+    refine(w, n, m, left, right)
 }
 
-// Verdict and round held to the levels.
-fn judge(claim: Claim, found: Levels, n: usize) -> Checked {
+// The first level that a report should name: where the starts are separated, or where the members' classes stay.
+fn round_of(found: Levels) -> usize {
+    if found.apart == numbers::NONE {
+        found.round
+    } else {
+        found.apart
+    }
+}
+
+// Verdict, round and classes held to the levels of n configurations.
+fn judge(claim: Claim, found: Levels, classes: bool, n: usize) -> Checked
+    requires { ⌜ (n ≤ 4096) × (found .last < 4096) × Placed claim ⌝ }
+    ensures { λ r. ⌜ Agreed claim r ⌝ }
+{
     if !found.whole {
         return Checked::TooLarge;
     }
-    let same = found.apart == plain_tables::NONE;
+    let same = found.apart == numbers::NONE;
     if claim.same != same {
         return Checked::Verdict;
     }
-    let round = if same { found.round } else { found.apart };
-    if claim.round != round {
+    if claim.round != round_of(found) {
         return Checked::Round;
+    }
+    if found.last < claim.round {
+        return Checked::Round;
+    }
+    if !classes {
+        return Checked::Classes;
     }
     Checked::Agree(n, found.last)
 }
 
-// The number of a start's configuration, which is entered.
-fn enter_start(universe: &mut [usize], start: Configuration) -> usize {
-    let list = plain_sheet::start_threads(start);
-    let Threads::Are(x) = list else {
-        return plain_tables::NONE;
-    };
-    plain_tables::enter(universe, plain_sheet::start_store(start), x)
+// Whether both starts stand where the report says, among m members.
+fn both_placed(w: &[usize], m: usize, claim: Claim, left: usize, right: usize) -> bool
+    requires { ⌜ m ≤ 512 ⌝ }
+    ensures { λ r. ⌜ Tells (Placed claim) r ⌝ }
+{
+    if members::stands_at(w, m, claim.left, left) {
+        return members::stands_at(w, m, claim.right, right);
+    }
+    false
 }
 
-// The report held to the levels over configurations that are all there.
+// The report held to the levels over n configurations that are all there.
 fn check_levels(
-    sheet: &[usize],
-    universe: &[usize],
-    reductions: &[usize],
-    numbers: &mut [usize],
-    table: &mut [usize],
-    listed: &mut [usize],
+    w: &mut [usize],
+    n: usize,
     answer: &[u8],
     claim: Claim,
     left: usize,
     right: usize,
-) -> Checked {
-    let m = listed_members::list_members(answer, universe, listed);
-    if m == plain_tables::NONE {
+) -> Checked
+    requires { ⌜ n ≤ 4096 ⌝ }
+    ensures { λ r. ⌜ Agreed claim r ⌝ }
+{
+    let m = members::list_members(answer, w);
+    if m == numbers::NONE {
         return Checked::Members;
     }
-    let placed = listed_members::stands_at(listed, m, claim.left, left);
-    if !(placed && listed_members::stands_at(listed, m, claim.right, right)) {
+    if !both_placed(w, m, claim, left, right) {
         return Checked::Places;
     }
-    let found = all_levels(
-        sheet,
-        universe,
-        reductions,
-        numbers,
-        table,
-        listed,
-        m,
-        left,
-        right,
-    );
-    let judged = judge(claim, found, plain_tables::count(universe));
-    let Checked::Agree(_, _) = judged else {
-        return judged;
-    };
-    if listed_members::classes_agree(listed, m) {
-        judged
-    } else {
-        Checked::Classes
-    }
+    let found = all_levels(w, n, m, left, right);
+    judge(claim, found, members::classes_agree(w, m), n)
 }
 
-// The tables with both starts and nothing else.
-fn enter_starts(
-    universe: &mut [usize],
-    reductions: &mut [usize],
-    left: Configuration,
-    right: Configuration,
-) -> Reached {
-    plain_tables::clear(universe);
-    plain_tables::clear(reductions);
-    let p = enter_start(universe, left);
-    let q = enter_start(universe, right);
-    Reached {
-        whole: true,
-        left: p,
-        right: q,
-    }
-}
-
-// Takes in a sheet, and every configuration that the two starts reach.
-fn reach(
-    sheet: Sheet,
-    left: Configuration,
-    right: Configuration,
-    plain: &mut [usize],
-    universe: &mut [usize],
-    reductions: &mut [usize],
-    stack: &mut [usize],
-    numbers: &mut [usize],
-) -> Reached {
-    let starts = enter_starts(universe, reductions, left, right);
-    let whole = plain_sheet::take_in(sheet, plain)
-        && plain_universe::grow(plain, universe, reductions, stack, numbers);
-    Reached {
-        whole,
-        left: starts.left,
-        right: starts.right,
-    }
-}
-
-// A report on two starts of a sheet held to what the levels give. The slices lent are room to work in; what they held does
-// not matter.
+// A report on two starts of a sheet held to what the levels give.
 pub fn check(
     sheet: Sheet,
     left: Configuration,
     right: Configuration,
     claim: Claim,
     answer: &[u8],
-    plain: &mut [usize],
-    universe: &mut [usize],
-    reductions: &mut [usize],
-    stack: &mut [usize],
-    numbers: &mut [usize],
-    table: &mut [usize],
-    listed: &mut [usize],
-) -> Checked {
-    let reached = reach(
-        sheet,
-        left,
-        right,
-        plain,
-        universe,
-        reductions,
-        stack,
-        numbers,
-    );
+) -> Checked
+    ensures { λ r. ⌜ Agreed claim r ⌝ }
+{
+    let mut w = [0usize; areas::ROOM];
+    let reached = level_reach::reach(sheet, left, right, &mut w);
     if !reached.whole {
         return Checked::TooLarge;
     }
-    check_levels(
-        plain,
-        universe,
-        reductions,
-        numbers,
-        table,
-        listed,
-        answer,
-        claim,
-        reached.left,
-        reached.right,
-    )
+    let n = pairs::count(&w, areas::CONFIGURATIONS);
+    check_levels(&mut w, n, answer, claim, reached.left, reached.right)
 }

@@ -1,7 +1,7 @@
 -- The words of the line that tells what the second checker found.
 use mathlib.Core.List.{List, [], _∷_}
 use Prim.Native.Nat.{ℕ}
-use Rattle.lines.specs.Lines.{line}
+use Rattle.printed_lines.specs.Lines.{line}
 use Rattle.level_check.specs.declared.Checked.{Checked}
 use Rattle.level_check.specs.declared.Checked.the-variants.{Agree, TooLarge, Members, Places, Verdict, Round, Classes}
 

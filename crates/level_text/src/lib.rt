@@ -3,7 +3,7 @@ use level_check::Checked;
 ghost use mathlib.Core.List.{[], _∷_};
 ghost use Prim.Native.Nat.{_≤_};
 ghost use lib.ListN.{length};
-ghost use Rattle.lines.specs.Lines.{line};
+ghost use Rattle.printed_lines.specs.Lines.{line};
 ghost use Rattle.text.specs.Slices.{Written};
 ghost use Rattle.level_text.specs.LevelText.{agreeWord, checkedText};
 

@@ -1,11 +1,1 @@
-pub mod Tests
-pub mod Members
-pub mod Ascending
-pub mod Tables
-pub mod Counting
-pub mod SortingLaws
-pub mod Storing
-pub mod Frames
-pub mod Tabulated
-pub mod Entering
-pub mod Places
+pub mod Lists

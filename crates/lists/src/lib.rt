@@ -1,1 +1,1 @@
-// Lists, tests and orders: laws that the crates above cite. No code.
+// Notions of lists that the definitions are written with. No functions.

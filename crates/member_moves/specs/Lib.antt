@@ -1,2 +1,2 @@
 pub mod MovesFound
-pub mod FoundLaws
+pub mod MovesFoundLaws

@@ -2,22 +2,21 @@
 use mathlib.Core.Path.{_≡_}
 use mathlib.Core.List.{List, [], List·Memᴰ}
 use Prim.Native.Nat.{ℕ, _+_, _<_}
-use lib.ListN.{getD}
-use Rattle.lists.specs.Frames.{SameOutside}
+use Rattle.list_laws.specs.Frames.{SameOutside}
 use Rattle.sheets.specs.Sheet.{Node, Configuration}
 use Rattle.moves.specs.Orders.{Move}
 use Rattle.moves.specs.Moves.{moves}
 use Rattle.node_moves.specs.NodeMoves.{placedMoves}
-use Rattle.node_moves.specs.ThreadLaws.{restWithout}
 use Rattle.comparison.specs.Promise.{PassesLimit}
-use Rattle.work_places.specs.WorkPlaces.{movesAt, workEnd}
-use Rattle.collecting.specs.Collected.{Grown, movesOf}
-use Rattle.gathering.specs.Gathered.{Growth, InHand, Gathered}
-use Rattle.walks.specs.declared.Basis.{Basis}
-use Rattle.walks.specs.declared.Walk.{Walk}
-use Rattle.walks.specs.declared.Walked.{Walked}
-use Rattle.walks.specs.declared.Walked.the-variants.{On, Over}
-use Rattle.walks.specs.Walking.{Walking, Covering, OnSheet}
+use Rattle.collected_moves.specs.CollectedMoves.{Grown, movesOf}
+use Rattle.set_growth.specs.SetGrowth.{Growth, InHand, Gathered}
+use Rattle.nodes_to_visit.specs.NodesToVisit.{threadAt}
+use Rattle.walk_state.specs.declared.Basis.{Basis}
+use Rattle.walk_state.specs.declared.Walk.{Walk}
+use Rattle.walk_state.specs.declared.Walked.{Walked}
+use Rattle.walk_state.specs.declared.Walked.the-variants.{On, Over}
+use Rattle.walk_state.specs.WalkState.{Walking, Covering, OnSheet}
+use Rattle.work_layout.specs.WorkLayout.{workEnd, movesAt}
 
 -- what was collected are moves of the member, and every move of the member is collected
 pub record Collected (g : Growth) (h : InHand g) (b : Basis) (w : List ℕ) (t : Walk) : Type 0 where
@@ -25,8 +24,8 @@ pub record Collected (g : Growth) (h : InHand g) (b : Basis) (w : List ℕ) (t :
   pub whole : (m : Move) → List·Memᴰ m (moves (g .sheet) (h .member)) → List·Memᴰ m (movesOf w (b .first) (t .running))
 
 -- all moves of the member e are found
-pub record FoundOn (nodes : List Node) (b : Basis) (v : List ℕ) (s : Walk) (e : Configuration) (w : List ℕ) (t : Walk) : Type 0 where
-  pub walking : Walking w b t
+pub record FoundOn (rank : ℕ → ℕ) (nodes : List Node) (b : Basis) (v : List ℕ) (s : Walk) (e : Configuration) (w : List ℕ) (t : Walk) : Type 0 where
+  pub walking : Walking rank w b t
   pub none-left : t .top ≡ 0
   pub grown : Grown v (b .first) (s .running) w (t .running)
   pub collected : (g : Growth) (h : InHand g) → OnSheet g nodes b v → h .member ≡ e → Gathered g h v (b .first) (s .running) → Collected g h b w t
@@ -38,34 +37,30 @@ pub record FoundOver (nodes : List Node) (b : Basis) (v : List ℕ) (s : Walk) (
   pub outside : SameOutside (movesAt + b .first) workEnd v w
 
 -- by the answer
-abbrev pub MovesFound : List Node → Basis → List ℕ → Walk → Configuration → List ℕ → Walked → Type 0
-MovesFound nodes b v s e w (On t) = FoundOn nodes b v s e w t
-MovesFound nodes b v s e w Over = FoundOver nodes b v s e w
+abbrev pub MovesFound : (ℕ → ℕ) → List Node → Basis → List ℕ → Walk → Configuration → List ℕ → Walked → Type 0
+MovesFound rank nodes b v s e w (On t) = FoundOn rank nodes b v s e w t
+MovesFound rank nodes b v s e w Over = FoundOver nodes b v s e w
 
 -- ---- thread by thread
--- the thread at place i as a node to visit, with the others beside it
-abbrev pub threadAt : Configuration → ℕ → Configuration
-threadAt e i = record { store = getD (e .threads) i 0; threads = restWithout (e .threads) i }
-
 -- what the threads below place i give is collected
-pub record FoundBelow (g : Growth) (h : InHand g) (b : Basis) (e : Configuration) (i : ℕ) (w : List ℕ) (t : Walk) : Type 0 where
-  pub covering : Covering g h b w t []
+pub record FoundBelow (rank : ℕ → ℕ) (g : Growth) (h : InHand g) (b : Basis) (e : Configuration) (i : ℕ) (w : List ℕ) (t : Walk) : Type 0 where
+  pub covering : Covering rank g h b w t []
   pub found : (j : ℕ) → j < i → (m : Move) → List·Memᴰ m (placedMoves (g .sheet) (b .store) (threadAt e j))
       → List·Memᴰ m (movesOf w (b .first) (t .running))
 
 -- one thread more
-pub record NextOn (nodes : List Node) (b : Basis) (v : List ℕ) (s : Walk) (e : Configuration) (i : ℕ) (w : List ℕ) (t : Walk) : Type 0 where
-  pub walking : Walking w b t
+pub record NextOn (rank : ℕ → ℕ) (nodes : List Node) (b : Basis) (v : List ℕ) (s : Walk) (e : Configuration) (i : ℕ) (w : List ℕ) (t : Walk) : Type 0 where
+  pub walking : Walking rank w b t
   pub none-left : t .top ≡ 0
   pub grown : Grown v (b .first) (s .running) w (t .running)
-  pub next : (g : Growth) (h : InHand g) → OnSheet g nodes b v → h .member ≡ e → FoundBelow g h b e i v s → FoundBelow g h b e (i + 1) w t
+  pub next : (g : Growth) (h : InHand g) → OnSheet g nodes b v → h .member ≡ e → FoundBelow rank g h b e i v s → FoundBelow rank g h b e (i + 1) w t
 
-pub record NextOver (nodes : List Node) (b : Basis) (v : List ℕ) (s : Walk) (e : Configuration) (i : ℕ) (w : List ℕ) : Type 0 where
-  pub passes : (g : Growth) (h : InHand g) → OnSheet g nodes b v → h .member ≡ e → FoundBelow g h b e i v s
+pub record NextOver (rank : ℕ → ℕ) (nodes : List Node) (b : Basis) (v : List ℕ) (s : Walk) (e : Configuration) (i : ℕ) (w : List ℕ) : Type 0 where
+  pub passes : (g : Growth) (h : InHand g) → OnSheet g nodes b v → h .member ≡ e → FoundBelow rank g h b e i v s
       → PassesLimit (g .sheet) (g .limits) (g .seeds)
   pub outside : SameOutside (movesAt + b .first) workEnd v w
 
 -- by the answer
-abbrev pub NextFound : List Node → Basis → List ℕ → Walk → Configuration → ℕ → List ℕ → Walked → Type 0
-NextFound nodes b v s e i w (On t) = NextOn nodes b v s e i w t
-NextFound nodes b v s e i w Over = NextOver nodes b v s e i w
+abbrev pub NextFound : (ℕ → ℕ) → List Node → Basis → List ℕ → Walk → Configuration → ℕ → List ℕ → Walked → Type 0
+NextFound rank nodes b v s e i w (On t) = NextOn rank nodes b v s e i w t
+NextFound rank nodes b v s e i w Over = NextOver rank nodes b v s e i w

@@ -1,18 +1,19 @@
 // The moves of one member: a walk for each of its threads, with the others beside it.
-use held::Configuration;
-use walks::Basis;
-use walks::Walk;
-use walks::Walked;
+use sheet_types::Configuration;
+use walk_state::Basis;
+use walk_state::Walk;
+use walk_state::Walked;
 ghost use mathlib.Core.Path.{_≡_};
 ghost use Prim.Native.Nat.{_≤_, _<_};
-ghost use Rattle.held.specs.Held.{configuration};
-ghost use Rattle.movability.specs.Movability.{nodesHeld};
-ghost use Rattle.walks.specs.Walking.{NodesLent, MemberFits, Walking};
+ghost use Rattle.sheet_types.specs.HeldSheet.{configuration};
+ghost use Rattle.sheet_laws.specs.Ranks.{rankOf};
+ghost use Rattle.movable_nodes.specs.Movability.{nodesHeld};
+ghost use Rattle.walk_state.specs.WalkState.{NodesLent, MemberFits, Walking};
 ghost use Rattle.member_moves.specs.MovesFound.{MovesFound, NextFound};
 
 // The moves of the thread at place i. An equal thread before it gives the same.
 fn thread_moves(
-    w: &mut [u32],
+    work: &mut [u32],
     kinds: &[u8; 64],
     firsts: &[u16; 64],
     seconds: &[u16; 64],
@@ -24,17 +25,17 @@ fn thread_moves(
     i: usize,
     s: Walk,
 ) -> Walked
-    requires { ⌜ NodesLent (now kinds) (now firsts) (now seconds) (now counts) (now threads) (now movables) b × Walking (now w) b s
+    requires { ⌜ NodesLent rankOf (now kinds) (now firsts) (now seconds) (now counts) (now threads) (now movables) b × Walking rankOf (now work) b s
         × (s .top ≡ 0) × MemberFits b (configuration e) × (e .count ≤ 8) × (b .store ≡ e .store) × (i < e .count) ⌝ }
-    ensures { λ r. ⌜ NextFound (nodesHeld (now (kinds .entry)) (now (firsts .entry)) (now (seconds .entry)) (b .nodes)) b
-        (now (w .entry)) s (configuration e) i (now (w .exit)) r ⌝ }
+    ensures { λ r. ⌜ NextFound rankOf (nodesHeld (now (kinds .entry)) (now (firsts .entry)) (now (seconds .entry)) (b .nodes)) b
+        (now (work .entry)) s (configuration e) i (now (work .exit)) r ⌝ }
 {
     let own = e.threads;
     if 0 < i && own[i - 1] == own[i] {
         return Walked::On(s);
     }
-    let rest = pending::without(e, i);
-    pending::push(w, 0, own[i] as u16, rest);
+    let thread = nodes_to_visit::thread_beside(e, i);
+    nodes_to_visit::push(work, 0, thread);
     let running = s.running;
     let shelf = s.shelf;
     let t = Walk {
@@ -43,12 +44,22 @@ fn thread_moves(
         marks: s.marks,
         top: 1,
     };
-    visiting::walk(w, kinds, firsts, seconds, counts, threads, movables, b, t)
+    node_walk::walk(
+        work,
+        kinds,
+        firsts,
+        seconds,
+        counts,
+        threads,
+        movables,
+        b,
+        t,
+    )
 }
 
 // The moves of all threads of e.
 pub fn moves_of(
-    w: &mut [u32],
+    work: &mut [u32],
     kinds: &[u8; 64],
     firsts: &[u16; 64],
     seconds: &[u16; 64],
@@ -59,17 +70,17 @@ pub fn moves_of(
     e: Configuration,
     s: Walk,
 ) -> Walked
-    requires { ⌜ NodesLent (now kinds) (now firsts) (now seconds) (now counts) (now threads) (now movables) b × Walking (now w) b s
+    requires { ⌜ NodesLent rankOf (now kinds) (now firsts) (now seconds) (now counts) (now threads) (now movables) b × Walking rankOf (now work) b s
         × (s .top ≡ 0) × (s .marks ≡ 0) × MemberFits b (configuration e) × (e .count ≤ 8) × (b .store ≡ e .store) ⌝ }
-    ensures { λ r. ⌜ MovesFound (nodesHeld (now (kinds .entry)) (now (firsts .entry)) (now (seconds .entry)) (b .nodes)) b
-        (now (w .entry)) s (configuration e) (now (w .exit)) r ⌝ }
+    ensures { λ r. ⌜ MovesFound rankOf (nodesHeld (now (kinds .entry)) (now (firsts .entry)) (now (seconds .entry)) (b .nodes)) b
+        (now (work .entry)) s (configuration e) (now (work .exit)) r ⌝ }
 {
     let mut cur = s;
     let mut i: usize = 0;
     let n = e.count as usize;
     while i < n {
         let r = thread_moves(
-            w,
+            work,
             kinds,
             firsts,
             seconds,

@@ -5,11 +5,10 @@ use mathlib.Core.List.{List, [], _∷_, _++_, map, List·Memᴰ}
 use Prim.Native.Nat.{ℕ, zero, suc, _^_}
 use lib.ListN.{length}
 use lib.Dec.{eqb}
-use Rattle.lists.specs.Members.{select, any}
-use Rattle.lists.specs.Ascending.{arrange, sortUp}
+use Rattle.lists.specs.Lists.{select, any, arrange, sortUp}
 use Rattle.stores.specs.Stores.{closure, join, entails, strictlyBelow, leastStore}
 use Rattle.sheets.specs.Sheet.{Node, stop, tell, ask, both, either, Configuration, Sheet, nodeOf, opened}
-use Rattle.moves.specs.Orders.{Move, moveOrder}
+use Rattle.moves.specs.Orders.{Move, moveBefore}
 
 -- k numbers from b on
 abbrev pub countUp : ℕ → ℕ → List ℕ
@@ -76,7 +75,7 @@ movesFrom sheet d passed (t ∷ ts) = map (moveOf (passed ++ ts)) (steps sheet d
 
 -- The labelled moves of a configuration, in their order; equal ones are one move.
 unfoldable pub moves : Sheet → Configuration → List Move
-moves sheet p = arrange moveOrder (movesFrom sheet (p .store) [] (p .threads))
+moves sheet p = arrange moveBefore (movesFrom sheet (p .store) [] (p .threads))
 
 -- p has a move with this label to this target
 abbrev pub Moves : Sheet → Configuration → ℕ → Configuration → Type 0

@@ -1,1 +1,1 @@
-// Labels, labelled moves and reductions (document 01, "Configurations and moves"): definitions and laws. No code.
+// Labels, labelled moves and reductions (document 01, "Configurations and moves"): definitions. No functions.

@@ -8,19 +8,21 @@ use Prim.Native.Nat.{ℕ, zero, suc, _≤_, _<_}
 use native.Mathlib.Omega.{arith}
 use lib.ListN.{length, getD}
 use lib.Seq.{append-snoc}
-use Rattle.lists.specs.Tests.{true-false, or-false}
-use Rattle.lists.specs.Members.{mem-map, map-mem}
-use Rattle.lists.specs.Ascending.{sortUp, arrange-keeps, arrange-only}
+use Rattle.list_laws.specs.TestLaws.{true-false, or-false}
+use Rattle.list_laws.specs.Members.{mem-map, map-mem}
+use Rattle.lists.specs.Lists.{sortUp}
+use Rattle.list_laws.specs.AscendingLaws.{arrange-keeps, arrange-only}
 use Rattle.stores.specs.Stores.{join, leastStore}
-use Rattle.stores.specs.StoreLaws.{join-right}
+use Rattle.store_laws.specs.StoreLaws.{join-right}
 use Rattle.sheets.specs.Sheet.{Node, stop, tell, ask, both, either, Sheet, nodeOf, opened}
 use Rattle.sheets.specs.WellFormed.{NodeFits, WellFormed}
-use Rattle.sheets.specs.OpeningLaws.{LowerNames, Lower}
-use Rattle.sheets.specs.ReadingLaws.{well-formed-lower}
-use Rattle.moves.specs.Orders.{Move, moveOrder}
+use Rattle.sheet_laws.specs.Ranks.{OfParts, Part, Ranked, rankOf, parts-map}
+use Rattle.sheet_laws.specs.ReadingLaws.{well-formed-ranked}
+use Rattle.moves.specs.Orders.{Move}
+use Rattle.move_laws.specs.OrderLaws.{moveOrder}
 use Rattle.moves.specs.Moves.{Step, labels, beside, stepsOf, steps, moveOf, movesFrom, moves}
-use Rattle.moves.specs.LabelLaws.{label-below}
-use Rattle.moves.specs.StepLaws.{steps-are}
+use Rattle.move_laws.specs.LabelLaws.{label-below}
+use Rattle.move_laws.specs.NestingLaws.{steps-are}
 use Rattle.node_moves.specs.NodeMoves.{nodeMoves, movableOf, movableWithin, movable}
 use Rattle.node_moves.specs.ThreadLaws.{sort-three, sort-append-length, restWithout}
 
@@ -39,7 +41,7 @@ moves-beside ts rest xs =
     map-map (moveOf rest) (beside ts) xs
     ∙ map-same (λ (m : Step). moveOf rest (beside ts m)) (moveOf (sortUp (ts ++ rest))) (move-beside ts rest) xs
 
-module _ (sheet : Sheet) (low : Lower (sheet .nodes)) (d : ℕ) where
+module _ {rank : ℕ → ℕ} (sheet : Sheet) (low : Ranked rank (sheet .nodes)) (d : ℕ) where
   -- the moves of a node are those that its kind says
   moves-of-kind : (B : List ℕ) (k : ℕ) → k < length (sheet .nodes) → (v : Node) → nodeOf (sheet .nodes) k ≡ v
       → nodeMoves sheet d B k ≡ map (moveOf B) (stepsOf sheet d (steps sheet d) v)
@@ -123,58 +125,63 @@ module _ (sheet : Sheet) (d : ℕ) where
       subst (λ (t : Move). length B ≤ length (t .target .threads)) (sym (x .2)) (omega (arith, sort-append-length (x .0 .threads) B))
 
 -- ---- which nodes have a step
--- only whether the lower nodes have one matters
-pub movable-same : (inner other : ℕ → Bool) (k : ℕ) (v : Node) → LowerNames k v → ((j : ℕ) → j < k → inner j ≡ other j)
-    → movableOf inner v ≡ movableOf other v
-movable-same inner other k stop l h = refl
-movable-same inner other k (tell c) l h = refl
-movable-same inner other k (ask c q) l h = refl
-movable-same inner other k (both p q) l h = ap₂ (λ (a b : Bool). a || b) (h p (l .0)) (h q (l .1))
-movable-same inner other k (either p q) l h = ap₂ (λ (a b : Bool). a || b) (h p (l .0)) (h q (l .1))
+-- only whether the parts have one matters
+pub movable-same : (inner other : ℕ → Bool) (v : Node) → OfParts (λ j. inner j ≡ other j) v → movableOf inner v ≡ movableOf other v
+movable-same inner other stop h = refl
+movable-same inner other (tell c) h = refl
+movable-same inner other (ask c q) h = refl
+movable-same inner other (both p q) h = ap₂ (λ (a b : Bool). a || b) (h .0) (h .1)
+movable-same inner other (either p q) h = ap₂ (λ (a b : Bool). a || b) (h .0) (h .1)
 
--- any number of nodes above k will do
-movable-enough : (ns : List Node) → Lower ns → (f g k : ℕ) → k < f → k < g → movableWithin f ns k ≡ movableWithin g ns k
+-- any number of nodes above the rank of k will do
+movable-enough : {rank : ℕ → ℕ} (ns : List Node) → Ranked rank ns → (f g k : ℕ) → rank k < f → rank k < g
+    → movableWithin f ns k ≡ movableWithin g ns k
 unfolding movableWithin
 movable-enough ns low zero g k a b = absurd (omega arith)
 movable-enough ns low (suc f) zero k a b = absurd (omega arith)
-movable-enough ns low (suc f) (suc g) k a b =
-    movable-same (movableWithin f ns) (movableWithin g ns) k (nodeOf ns k) (low .at k)
-    (λ j l. movable-enough ns low f g j (omega arith) (omega arith))
+movable-enough {rank} ns low (suc f) (suc g) k a b =
+    movable-same (movableWithin f ns) (movableWithin g ns) (nodeOf ns k)
+    (parts-map (Part rank (length ns) k) (λ j. movableWithin f ns j ≡ movableWithin g ns j)
+    (λ j l. movable-enough ns low f g j (omega (arith, l .lower)) (omega (arith, l .lower))) (nodeOf ns k) (low .parts k))
 
 movable-step : (ns : List Node) (n k : ℕ) → movableWithin (suc n) ns k ≡ movableOf (movableWithin n ns) (nodeOf ns k)
 unfolding movableWithin
 movable-step ns n k = refl
 
 -- whether node k has a step is what its kind says
-pub movable-is : (ns : List Node) → Lower ns → (k : ℕ) → k < length ns → movable ns k ≡ movableOf (movable ns) (nodeOf ns k)
-movable-is ns low k l = movable-enough ns low (length ns) (suc (length ns)) k l (omega arith) ∙ movable-step ns (length ns) k
+pub movable-is : {rank : ℕ → ℕ} (ns : List Node) → Ranked rank ns → (k : ℕ) → k < length ns
+    → movable ns k ≡ movableOf (movable ns) (nodeOf ns k)
+movable-is ns low k l =
+    let h = low .small k l in
+    movable-enough ns low (length ns) (suc (length ns)) k h (omega arith) ∙ movable-step ns (length ns) k
 
 -- a node with no step gives no move
-module _ (sheet : Sheet) (low : Lower (sheet .nodes)) (d : ℕ) where
-  still-below : (f k : ℕ) → k < f → k < length (sheet .nodes) → movable (sheet .nodes) k ≡ false → (B : List ℕ) → nodeMoves sheet d B k ≡ []
+module _ {rank : ℕ → ℕ} (sheet : Sheet) (low : Ranked rank (sheet .nodes)) (d : ℕ) where
+  still-below : (f k : ℕ) → rank k < f → k < length (sheet .nodes) → movable (sheet .nodes) k ≡ false → (B : List ℕ) → nodeMoves sheet d B k ≡ []
   still-below zero k a l h B = absurd (omega arith)
   still-below (suc f) k a l h B =
-      go (still-below f) (nodeOf (sheet .nodes) k) refl (low .at k) (sym (movable-is (sheet .nodes) low k l) ∙ h)
+      go (still-below f) (nodeOf (sheet .nodes) k) refl (low .parts k) (sym (movable-is (sheet .nodes) low k l) ∙ h)
     where
-      go : ((j : ℕ) → j < f → j < length (sheet .nodes) → movable (sheet .nodes) j ≡ false → (C : List ℕ) → nodeMoves sheet d C j ≡ [])
-          → (v : Node) → nodeOf (sheet .nodes) k ≡ v → LowerNames k v → movableOf (movable (sheet .nodes)) v ≡ false
-          → nodeMoves sheet d B k ≡ []
+      go : ((j : ℕ) → rank j < f → j < length (sheet .nodes) → movable (sheet .nodes) j ≡ false → (C : List ℕ) → nodeMoves sheet d C j ≡ [])
+          → (v : Node) → nodeOf (sheet .nodes) k ≡ v → OfParts (Part rank (length (sheet .nodes)) k) v
+          → movableOf (movable (sheet .nodes)) v ≡ false → nodeMoves sheet d B k ≡ []
       go ih stop e w s = moves-of-stop sheet low d B k l e
       go ih (tell c) e w s = true-false true refl s
       go ih (ask c q) e w s = true-false true refl s
       go ih (both p q) e w s =
           let x = or-false (movable (sheet .nodes) p) (movable (sheet .nodes) q) s in
           moves-of-both sheet low d B k l p q e
-          ∙ ap₂ (λ (x y : List Move). x ++ y) (ih p (omega (arith, w .0)) (omega (arith, w .0)) (x .0) (sortUp (opened (sheet .nodes) q ++ B)))
-          (ih q (omega (arith, w .1)) (omega (arith, w .1)) (x .1) (sortUp (opened (sheet .nodes) p ++ B)))
+          ∙ ap₂ (λ (x y : List Move). x ++ y)
+          (ih p (omega (arith, w .0 .lower)) (w .0 .inside) (x .0) (sortUp (opened (sheet .nodes) q ++ B)))
+          (ih q (omega (arith, w .1 .lower)) (w .1 .inside) (x .1) (sortUp (opened (sheet .nodes) p ++ B)))
       go ih (either p q) e w s =
           let x = or-false (movable (sheet .nodes) p) (movable (sheet .nodes) q) s in
           moves-of-either sheet low d B k l p q e
-          ∙ ap₂ (λ (x y : List Move). x ++ y) (ih p (omega (arith, w .0)) (omega (arith, w .0)) (x .0) B)
-          (ih q (omega (arith, w .1)) (omega (arith, w .1)) (x .1) B)
+          ∙ ap₂ (λ (x y : List Move). x ++ y) (ih p (omega (arith, w .0 .lower)) (w .0 .inside) (x .0) B)
+          (ih q (omega (arith, w .1 .lower)) (w .1 .inside) (x .1) B)
 
   pub still-node : (B : List ℕ) (k : ℕ) → k < length (sheet .nodes) → movable (sheet .nodes) k ≡ false → nodeMoves sheet d B k ≡ []
-  still-node B k l h = still-below (suc k) k (omega arith) l h B
+  still-node B k l h = still-below (suc (rank k)) k (omega arith) l h B
 
 -- a node with a step gives a move at any store, beside any threads
 module _ (sheet : Sheet) (fine : WellFormed sheet) (d : ℕ) where
@@ -182,13 +189,13 @@ module _ (sheet : Sheet) (fine : WellFormed sheet) (d : ℕ) where
   abbrev SomeMove : List ℕ → ℕ → Type 0
   SomeMove B k = (m : Move) × List·Memᴰ m (nodeMoves sheet d B k)
 
-  movable-below : (f k : ℕ) → k < f → k < length (sheet .nodes) → movable (sheet .nodes) k ≡ true → (B : List ℕ) → SomeMove B k
+  movable-below : (f k : ℕ) → rankOf k < f → k < length (sheet .nodes) → movable (sheet .nodes) k ≡ true → (B : List ℕ) → SomeMove B k
   movable-below zero k a l h B = absurd (omega arith)
   movable-below (suc f) k a l h B =
-      go (movable-below f) (nodeOf (sheet .nodes) k) refl (fine .nodes-fit k l) (sym (movable-is (sheet .nodes) low k l) ∙ h)
+      go (movable-below f) (nodeOf (sheet .nodes) k) refl (fine .nodes-fit k l) (low .parts k) (sym (movable-is (sheet .nodes) low k l) ∙ h)
     where
-      low : Lower (sheet .nodes)
-      low = well-formed-lower sheet fine
+      low : Ranked rankOf (sheet .nodes)
+      low = well-formed-ranked sheet fine
 
       -- a move among those of the node's kind
       found : {ms : List Move} (m : Move) → nodeMoves sheet d B k ≡ ms → List·Memᴰ m ms → SomeMove B k
@@ -203,31 +210,31 @@ module _ (sheet : Sheet) (fine : WellFormed sheet) (d : ℕ) where
       one-of C D p q e one two false t s =
           let x = two s in found (x .0) e (Memᴰ·append-right (nodeMoves sheet d C p) (x .1))
 
-      go : ((j : ℕ) → j < f → j < length (sheet .nodes) → movable (sheet .nodes) j ≡ true → (C : List ℕ) → SomeMove C j)
+      go : ((j : ℕ) → rankOf j < f → j < length (sheet .nodes) → movable (sheet .nodes) j ≡ true → (C : List ℕ) → SomeMove C j)
           → (v : Node) → nodeOf (sheet .nodes) k ≡ v → NodeFits (sheet .facts) (sheet .rules) (length (sheet .nodes)) k v
-          → movableOf (movable (sheet .nodes)) v ≡ true → SomeMove B k
-      go ih stop e w s = true-false false s refl
-      go ih (tell c) e w s =
+          → OfParts (Part rankOf (length (sheet .nodes)) k) v → movableOf (movable (sheet .nodes)) v ≡ true → SomeMove B k
+      go ih stop e w o s = true-false false s refl
+      go ih (tell c) e w o s =
           found (record { label = leastStore (sheet .rules); target = record { store = join (sheet .rules) d c; threads = sortUp B } })
           (moves-of-tell sheet low d B k l c e) (List·Memᴰ·head refl)
-      go ih (ask c q) e w s =
+      go ih (ask c q) e w o s =
           let x = label-below sheet d c c (w .0) (join-right (sheet .rules) d c) in
           let f : ℕ → Move =
           λ a. record { label = a; target = record { store = join (sheet .rules) d a; threads = sortUp (opened (sheet .nodes) q ++ B) } } in
           found (f (x .0)) (moves-of-ask sheet low d B k l c q e) (map-mem f (x .1))
-      go ih (both p q) e w s =
+      go ih (both p q) e w o s =
           let C : List ℕ = sortUp (opened (sheet .nodes) q ++ B) in
           let D : List ℕ = sortUp (opened (sheet .nodes) p ++ B) in
           one-of C D p q (moves-of-both sheet low d B k l p q e)
-          (λ t. ih p (omega (arith, w .0)) (omega (arith, w .0)) t C) (λ t. ih q (omega (arith, w .1)) (omega (arith, w .1)) t D)
+          (λ t. ih p (omega (arith, o .0 .lower)) (o .0 .inside) t C) (λ t. ih q (omega (arith, o .1 .lower)) (o .1 .inside) t D)
           (movable (sheet .nodes) p) refl s
-      go ih (either p q) e w s =
+      go ih (either p q) e w o s =
           one-of B B p q (moves-of-either sheet low d B k l p q e)
-          (λ t. ih p (omega (arith, w .0)) (omega (arith, w .0)) t B) (λ t. ih q (omega (arith, w .1)) (omega (arith, w .1)) t B)
+          (λ t. ih p (omega (arith, o .0 .lower)) (o .0 .inside) t B) (λ t. ih q (omega (arith, o .1 .lower)) (o .1 .inside) t B)
           (movable (sheet .nodes) p) refl s
 
   pub movable-node : (B : List ℕ) (k : ℕ) → k < length (sheet .nodes) → movable (sheet .nodes) k ≡ true
       → (m : Move) × List·Memᴰ m (nodeMoves sheet d B k) × (length B ≤ length (m .target .threads))
   movable-node B k l h =
-      let x = movable-below (suc k) k (omega arith) l h B in
+      let x = movable-below (suc (rankOf k)) k (omega arith) l h B in
       (x .0, x .1, node-move-threads sheet d B k (x .0) (x .1))

@@ -4,7 +4,7 @@ use mathlib.Core.Bool.{Bool, true, false, _||_}
 use mathlib.Core.List.{List, map}
 use Prim.Native.Nat.{ℕ, zero, suc}
 use lib.ListN.{length}
-use Rattle.sheets.specs.Sheet.{Node, stop, tell, ask, both, either, Configuration, Sheet, nodeOf}
+use Rattle.sheets.specs.Sheet.{Node, stop, tell, ask, both, either, Sheet, nodeOf}
 use Rattle.moves.specs.Orders.{Move}
 use Rattle.moves.specs.Moves.{steps, moveOf}
 
@@ -12,9 +12,14 @@ use Rattle.moves.specs.Moves.{steps, moveOf}
 abbrev pub nodeMoves : Sheet → ℕ → List ℕ → ℕ → List Move
 nodeMoves sheet d beside k = map (moveOf beside) (steps sheet d k)
 
--- A node with threads beside it, written as a configuration: the node's number stands in the store's place.
-abbrev pub placedMoves : Sheet → ℕ → Configuration → List Move
-placedMoves sheet d e = nodeMoves sheet d (e .threads) (e .store)
+-- a node with threads beside it: the node may move, the threads stay
+pub record NodeBeside : Type 0 where
+  pub node : ℕ
+  pub threads : List ℕ
+
+-- the moves that it gives at store d
+abbrev pub placedMoves : Sheet → ℕ → NodeBeside → List Move
+placedMoves sheet d e = nodeMoves sheet d (e .threads) (e .node)
 
 -- Whether a node has a step, where `inner` tells it of the nodes it is made of: a tell and an ask always have one.
 abbrev pub movableOf : (ℕ → Bool) → Node → Bool

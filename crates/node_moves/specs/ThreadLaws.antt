@@ -7,8 +7,9 @@ use Prim.Native.Nat.{ℕ, zero, suc, _+_, _<_}
 use native.Mathlib.Omega.{arith}
 use native.Mathlib.Numerals.{add-one}
 use lib.ListN.{length, getD, take, drop, length-append}
-use Rattle.lists.specs.Ascending.{insertUp, sortUp, NotFalling, none-later, none-less, sortUp-same, sortUp-notFalling, sortUp-length}
-use Rattle.lists.specs.SortingLaws.{insertUp-comm, insertAll, insertAll-sorted}
+use Rattle.lists.specs.Lists.{insertUp, sortUp, NotFalling, none-later, none-less}
+use Rattle.list_laws.specs.AscendingLaws.{sortUp-same, sortUp-notFalling, sortUp-length}
+use Rattle.list_laws.specs.SortingLaws.{insertUp-comm, insertAll, insertAll-sorted}
 
 -- ---- sorting
 -- a number in the middle may be inserted last

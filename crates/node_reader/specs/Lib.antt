@@ -1,4 +1,4 @@
-pub mod HeldFirst
-pub mod Found
-pub mod NextLaws
-pub mod SoFar
+pub mod FirstFields
+pub mod NodesFound
+pub mod NextNodeLaws
+pub mod NodesSoFar

@@ -1,19 +1,19 @@
 // The nodes of a sheet: their fields, their sets closed, and the threads that each opens to.
-use held::NodeRead;
-use held::Nodes;
-use held::NodesRead;
-use held::Opened;
-use held::Section;
-use held::Sheet;
+use sheet_types::NodeRead;
+use sheet_types::Nodes;
+use sheet_types::NodesRead;
+use sheet_types::Opened;
+use sheet_types::Section;
+use sheet_types::Sheet;
 ghost use mathlib.Core.Path.{_≡_};
 ghost use mathlib.Core.List.{[]};
 ghost use Prim.Native.Nat.{_≤_};
 ghost use lib.ListN.{length};
-ghost use Rattle.sheets.specs.Limits.{maxFacts, maxRules, minNodes, maxNodes};
+ghost use Rattle.sheets.specs.SheetLimits.{maxFacts, maxRules, minNodes, maxNodes};
 ghost use Rattle.sheets.specs.Reading.{nodeAt, nodesAt, recordsFrom};
-ghost use Rattle.closing.specs.Layout.{rulesIn};
-ghost use Rattle.node_reader.specs.HeldFirst.{closedFirst};
-ghost use Rattle.node_reader.specs.Found.{NodeFound, NodesFound};
+ghost use Rattle.set_closure.specs.RuleTable.{rulesIn};
+ghost use Rattle.node_reader.specs.FirstFields.{closedFirst};
+ghost use Rattle.node_reader.specs.NodesFound.{NodeFound, NodesFound};
 
 const MAX_THREADS: usize = Sheet::MAX_THREADS as usize;
 
@@ -23,7 +23,7 @@ fn held_first(rules: &[u16; 64], rule_count: u16, kind: u16, first: u16) -> u16
     ensures { λ r. ⌜ r ≡ closedFirst (rulesIn (now (rules .entry)) «rule_count») kind first ⌝ }
 {
     match kind {
-        1 | 2 => closing::close(rules, rule_count as usize, first),
+        1 | 2 => set_closure::close(rules, rule_count as usize, first),
         _ => first,
     }
 }
@@ -41,7 +41,7 @@ fn node_at(
     requires { ⌜ (at ≤ length (now s)) × (facts ≤ maxFacts) × («rule_count» ≤ maxRules) ⌝ }
     ensures { λ r. ⌜ NodeFound facts (rulesIn (now (rules .entry)) «rule_count») nodes number (now (s .entry)) at r ⌝ }
 {
-    let k = fields::kind_at(s, at);
+    let k = sheet_fields::kind_at(s, at);
     let Section::Got(kind, p) = k else {
         return NodeRead {
             answer: k,
@@ -49,7 +49,7 @@ fn node_at(
             second: 0,
         };
     };
-    let f = fields::first_at(s, kind, facts, number, p);
+    let f = sheet_fields::first_at(s, kind, facts, number, p);
     let Section::Got(first, q) = f else {
         return NodeRead {
             answer: f,
@@ -57,7 +57,7 @@ fn node_at(
             second: 0,
         };
     };
-    let g = fields::second_at(s, kind, nodes, number, q);
+    let g = sheet_fields::second_at(s, kind, nodes, number, q);
     let Section::Got(second, next) = g else {
         return NodeRead {
             answer: g,
@@ -116,9 +116,9 @@ fn nodes_from(
             return no_nodes(answer);
         };
         let k = i as usize;
-        let count = opening::open_node(&mut counts, &mut threads, kind, r.first, r.second, k);
+        let count = node_opening::open_node(&mut counts, &mut threads, kind, r.first, r.second, k);
         if MAX_THREADS < count {
-            return no_nodes(Section::Refused(15, p));
+            return no_nodes(Section::Refused(refusals::WIDE_NODE, p));
         }
         kinds[k] = kind as u8;
         firsts[k] = r.first;
@@ -142,7 +142,13 @@ pub fn nodes_at(s: &[u8], facts: u16, rules: &[u16; 64], rule_count: u16, at: us
     requires { ⌜ (at ≤ length (now s)) × (facts ≤ maxFacts) × («rule_count» ≤ maxRules) ⌝ }
     ensures { λ r. ⌜ NodesFound (nodesAt facts (rulesIn (now (rules .entry)) «rule_count») (now (s .entry)) at) (now (s .entry)) r ⌝ }
 {
-    let r = fields::count_at(s, at, Sheet::MIN_NODES, Sheet::MAX_NODES, 7);
+    let r = sheet_fields::count_at(
+        s,
+        at,
+        Sheet::MIN_NODES,
+        Sheet::MAX_NODES,
+        refusals::WRONG_NODES,
+    );
     let Section::Got(n, next) = r else {
         return no_nodes(r);
     };

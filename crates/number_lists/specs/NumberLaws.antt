@@ -7,10 +7,10 @@ use native.Mathlib.Omega.{arith}
 use lib.ListN.{length, getD, take, drop}
 use lib.Seq.{take-add, drop-drop}
 use borrow.Author.Tests.{ltb-true}
-use Rattle.lists.specs.Tables.{tabulate, tabulate-next, tabulate-length}
-use Rattle.lists.specs.Tabulated.{part-tabulate, mem-tabulate, tabulate-mem, ascends-at}
-use Rattle.lists.specs.Ascending.{Ascends, none-left}
-use Rattle.lists.specs.Frames.{SameOutside, part-same, outside-between}
+use Rattle.list_laws.specs.Tabulate.{tabulate, tabulate-next, tabulate-length}
+use Rattle.list_laws.specs.TabulateLaws.{part-tabulate, mem-tabulate, tabulate-mem, ascends-at}
+use Rattle.lists.specs.Lists.{Ascends, none-left}
+use Rattle.list_laws.specs.Frames.{SameOutside, part-same, outside-between}
 use Rattle.number_lists.specs.NumberLists.{numberOrder, numbersIn}
 
 -- the empty part has no number
@@ -20,8 +20,8 @@ numbers-none w from =
     let e : from - from ≡ 0 = omega arith in
     ap (λ (n : ℕ). take n (drop from w)) e
 
-pub numbers-none-ascend : (w : List ℕ) (from : ℕ) → Ascends numberOrder (numbersIn w from from)
-numbers-none-ascend w from = subst (Ascends numberOrder) (sym (numbers-none w from)) none-left
+pub numbers-none-ascend : (w : List ℕ) (from : ℕ) → Ascends (numberOrder .before) (numbersIn w from from)
+numbers-none-ascend w from = subst (Ascends (numberOrder .before)) (sym (numbers-none w from)) none-left
 
 -- a part is two parts, one after the other
 pub numbers-split : (w : List ℕ) (from mid end : ℕ) → from ≤ mid → mid ≤ end
@@ -71,13 +71,13 @@ module _ (w : List ℕ) (from end : ℕ) (h : from ≤ end) (l : end ≤ length 
       (from + i .0, omega arith, omega (arith, i .1), i .2)
 
   -- ascending numbers, place by place
-  pub numbers-rise : Ascends numberOrder (numbersIn w from end) → (i j : ℕ) → from ≤ i → i < j → j < end → getD w i 0 < getD w j 0
+  pub numbers-rise : Ascends (numberOrder .before) (numbersIn w from end) → (i j : ℕ) → from ≤ i → i < j → j < end → getD w i 0 < getD w j 0
   numbers-rise s i j p q r =
       let e : from + (i - from) ≡ i = omega arith in
       let d : from + (j - from) ≡ j = omega arith in
       let t : getD w (from + (i - from)) 0 < getD w (from + (j - from)) 0 =
       ltb-true (getD w (from + (i - from)) 0) (getD w (from + (j - from)) 0)
-      (ascends-at numberOrder (λ k. getD w (from + k) 0) (end - from) (subst (Ascends numberOrder) numbers-tabulate s) (i - from) (j - from)
+      (ascends-at numberOrder (λ k. getD w (from + k) 0) (end - from) (subst (Ascends (numberOrder .before)) numbers-tabulate s) (i - from) (j - from)
       (omega arith) (omega arith)) in
       rw (e, d) at t
 

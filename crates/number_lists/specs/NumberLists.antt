@@ -7,7 +7,7 @@ use native.Mathlib.Omega.{arith}
 use lib.ListN.{length, getD, take, drop}
 use lib.Dec.{ltb}
 use borrow.Author.Tests.{ltb-true, ltb-false, lt-ltb}
-use Rattle.lists.specs.Ascending.{Order}
+use Rattle.list_laws.specs.AscendingLaws.{Order}
 
 -- numbers by their size
 abbrev pub numberOrder : Order ℕ

@@ -1,2 +1,3 @@
+pub mod TextRoom
 pub mod OutcomeText
 pub mod OutcomeTextLaws

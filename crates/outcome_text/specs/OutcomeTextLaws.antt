@@ -8,20 +8,23 @@ use lib.ListN.{length, take, drop}
 use lib.Seq.{take-append-seam}
 use lib.Dec.{ltb}
 use borrow.Author.Tests.{le-ltb, lt-ltb}
-use Rattle.lines.specs.Lines.{line, refusedWord}
+use Rattle.printed_lines.specs.Lines.{line, refusedWord}
 use Rattle.comparison.specs.Report as spec
 use Rattle.comparison.specs.Report.{Verdict, SAME, DIFF, reportBytes, reportLength}
-use Rattle.comparison.specs.Call.{Outcome, reported, refusal, answerAfter, compare}
+use Rattle.comparison.specs.Frame.{reported, refusal}
+use Rattle.comparison.specs.Call.{Compares, answerAfter, compare}
 use Rattle.comparison.specs.Print.{printed}
-use Rattle.answers.specs.FittingLaws.{outcome-fits}
+use Rattle.comparison.specs.CallLimits.{limits}
+use Rattle.answer_laws.specs.FittingLaws.{outcome-fits}
 use Rattle.text.specs.Slices.{lineRoom, Written}
 use Rattle.report_text.specs.ReportText as report
 use Rattle.report_text.specs.ReportText.{ReportWritten}
-use Rattle.reporting.specs.declared.Reported.{Reported}
-use Rattle.reporting.specs.declared.Answer.{Answer}
-use Rattle.reporting.specs.declared.Answer.the-variants.{Report, Refused}
-use Rattle.reporting.specs.ReportMade.{isSame, returnedOf, returned}
-use Rattle.outcome_text.specs.OutcomeText.{Answered, textRoom, OutcomeWritten, OutcomeStored}
+use Rattle.answers.specs.declared.Reported.{Reported}
+use Rattle.answers.specs.declared.Answer.{Answer}
+use Rattle.answers.specs.declared.Answer.the-variants.{Report, Refused}
+use Rattle.answers.specs.Returned.{isSame, returnedOf, returned}
+use Rattle.outcome_text.specs.OutcomeText.{Printable, OutcomeWritten, OutcomeStored}
+use Rattle.outcome_text.specs.TextRoom.{textRoom}
 
 -- an answer after a report begins with its bytes
 pub answer-begins : (q : spec.Report) (before after : List ℕ) → after ≡ answerAfter (reported q) before
@@ -30,10 +33,10 @@ answer-begins q before after e =
     ap (take (reportLength q)) e ∙ take-append-seam (reportBytes q) (drop (reportLength q) before)
 
 -- what the call returns and leaves in the answer slice can be printed
-pub call-answered : (bytes : List ℕ) (first second work room : ℕ) (before after : List ℕ) (o : Outcome)
-    → compare bytes first second work room ≡ o → after ≡ answerAfter o before → Answered o after
+pub call-answered : (bytes : List ℕ) (first second work room : ℕ) (before after : List ℕ) (o : Compares)
+    → compare bytes first second work room ≡ o → after ≡ answerAfter o before → Printable o after
 call-answered bytes first second work room before after (reported q) e a =
-    (outcome-fits bytes first second work room q e, answer-begins q before after a)
+    (outcome-fits limits (record { members = omega arith; threads = omega arith; moves = omega arith }) bytes first second work room q e, answer-begins q before after a)
 call-answered bytes first second work room before after (refusal number place) e a = tt
 
 -- the two tests of a verdict are one
@@ -51,7 +54,7 @@ report-outcome {r} {x} is answer before after k w = record {
   counted = w .counted;
 }
   where
-    both : (o : Outcome) → Report x ≡ returned o → Answered o answer
+    both : (o : Compares) → Report x ≡ returned o → Printable o answer
         → (k ≡ length (printed o)) × (after ≡ printed o ++ drop (length (printed o)) before)
     both (reported q) e a =
         let x-is : x ≡ returnedOf q = cc in
@@ -79,14 +82,14 @@ refusal-outcome {r} {number} {place} is answer before after k room w = record {
         let rest : List ℕ = drop (length text) before in
         (w .count ∙ ap (λ (b : Bool). cond b 0 (length text)) whole, w .slice ∙ ap (λ (b : Bool). cond b before (text ++ rest)) whole)
 
-    both : (o : Outcome) → Refused number place ≡ returned o
+    both : (o : Compares) → Refused number place ≡ returned o
         → (k ≡ length (printed o)) × (after ≡ printed o ++ drop (length (printed o)) before)
     both (reported q) e = let z : _≡_ {A = ℕ} 0 1 = cc in absurd (omega arith)
     both (refusal n p) e =
         let number-is : number ≡ n = cc in
         let place-is : place ≡ p = cc in
         let same : refusal number place ≡ refusal n p = ap₂ refusal number-is place-is in
-        subst (λ (o : Outcome). (k ≡ length (printed o)) × (after ≡ printed o ++ drop (length (printed o)) before)) same written
+        subst (λ (o : Compares). (k ≡ length (printed o)) × (after ≡ printed o ++ drop (length (printed o)) before)) same written
 
 -- ---- the room
 -- a slice that is too short is left as it is

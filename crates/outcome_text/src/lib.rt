@@ -1,8 +1,9 @@
 // The text that the program prints of what the call returned.
-use reporting::Answer;
+use answers::Answer;
 ghost use Prim.Native.Nat.{_≤_};
 ghost use lib.ListN.{length};
-ghost use Rattle.outcome_text.specs.OutcomeText.{textRoom, OutcomeWritten, OutcomeStored};
+ghost use Rattle.outcome_text.specs.OutcomeText.{OutcomeWritten, OutcomeStored};
+ghost use Rattle.outcome_text.specs.TextRoom.{textRoom};
 
 const TEXT_ROOM: usize = 65536;
 

@@ -1,12 +1,12 @@
 -- Pairs of a relation with a constraint added to both sides: as symmetric, with the same barbs, and upward closed.
 use mathlib.Core.Path.{_≡_, refl, sym, ap, _∙_, subst}
 use Prim.Native.Nat.{ℕ}
-use Rattle.stores.specs.Sets.{Within}
+use Rattle.stores.specs.FactSets.{Within}
 use Rattle.stores.specs.Stores.{join, leastStore}
 use Rattle.sheets.specs.Sheet.{Sheet}
 use Rattle.sheets.specs.WellFormed.{WellFormed}
-use Rattle.moves.specs.LabelLaws.{least-constraint}
-use Rattle.comparison.specs.SheetMoves.{conclusions-fit, join-constraint}
+use Rattle.move_laws.specs.LabelLaws.{least-constraint}
+use Rattle.comparison_laws.specs.SheetMoves.{conclusions-fit, join-constraint}
 use Rattle.paper.specs.Terms.{Conf}
 use Rattle.paper.specs.Bisimulations.{Con, with-added, Symmetric, KeepsBarbs}
 use Rattle.paper.specs.Barbs.{same-stores}

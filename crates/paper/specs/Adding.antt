@@ -1,9 +1,9 @@
 -- Laws of adding a constraint to one of the paper's configurations, and the transitions that the reductions come from then.
 use mathlib.Core.Path.{_≡_, ap, subst}
 use Prim.Native.Nat.{ℕ}
-use Rattle.stores.specs.Sets.{Within}
+use Rattle.stores.specs.FactSets.{Within}
 use Rattle.stores.specs.Stores.{Closed, join, leastStore}
-use Rattle.stores.specs.StoreLaws.{join-assoc}
+use Rattle.store_laws.specs.StoreLaws.{join-assoc}
 use Rattle.sheets.specs.Sheet.{Sheet}
 use Rattle.paper.specs.Terms.{Conf}
 use Rattle.paper.specs.Tables.{Reduction}

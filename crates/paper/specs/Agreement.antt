@@ -3,13 +3,14 @@
 use mathlib.Core.Path.{_≡_, refl, sym, ap, _∙_, subst}
 use mathlib.Core.Logic.{_↔_}
 use Prim.Native.Nat.{ℕ}
-use Rattle.stores.specs.Sets.{Within, within-trans}
+use Rattle.stores.specs.FactSets.{Within}
+use Rattle.store_laws.specs.FactSetLaws.{within-trans}
 use Rattle.stores.specs.Stores.{Closed, join, leastStore}
-use Rattle.stores.specs.StoreLaws.{join-left, join-right, join-closed, join-comm, join-assoc, within-join, least-within, below-least}
+use Rattle.store_laws.specs.StoreLaws.{join-left, join-right, join-closed, join-comm, join-assoc, within-join, least-within, below-least}
 use Rattle.sheets.specs.Sheet.{Sheet}
 use Rattle.sheets.specs.WellFormed.{WellFormed}
-use Rattle.moves.specs.LabelLaws.{label-below, least-constraint}
-use Rattle.comparison.specs.SheetMoves.{conclusions-fit}
+use Rattle.move_laws.specs.LabelLaws.{label-below, least-constraint}
+use Rattle.comparison_laws.specs.SheetMoves.{conclusions-fit}
 use Rattle.paper.specs.Terms.{Term, nil, tell, ask}
 use Rattle.paper.specs.Tables.{Reduction, R1, R2, R3-left, R3-right, R4-left, R4-right, R6, Minimal, Transition, LR1, LR2, LR3-left, LR3-right, LR4-left, LR4-right, LR6}
 use Rattle.paper.specs.Bisimulations.{Con}

@@ -3,8 +3,8 @@ use mathlib.Core.Path.{_≡_, refl, sym, ap, ap₂, _∙_, subst}
 use mathlib.Core.Logic.{_↔_}
 use mathlib.Core.List.{List, [], _++_, map, List·Memᴰ}
 use Prim.Native.Nat.{ℕ, zero, suc}
-use Rattle.lists.specs.Members.{map-mem}
-use Rattle.lists.specs.Ascending.{sortUp}
+use Rattle.list_laws.specs.Members.{map-mem}
+use Rattle.lists.specs.Lists.{sortUp}
 use Rattle.sheets.specs.Sheet.{Node, Configuration, Sheet, opened}
 use Rattle.sheets.specs.WellFormed.{WellFormed}
 use Rattle.moves.specs.Moves.{add}

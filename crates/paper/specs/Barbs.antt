@@ -2,7 +2,8 @@
 use mathlib.Core.Path.{_≡_, sym, subst}
 use mathlib.Core.Logic.{_↔_}
 use Prim.Native.Nat.{ℕ}
-use Rattle.stores.specs.Sets.{Within, within-refl, within-antisym}
+use Rattle.stores.specs.FactSets.{Within}
+use Rattle.store_laws.specs.FactSetLaws.{within-refl, within-antisym}
 use Rattle.sheets.specs.Sheet.{Sheet}
 use Rattle.paper.specs.Terms.{Conf}
 use Rattle.paper.specs.Bisimulations.{Con, KeepsBarbs, Symmetric}

@@ -4,15 +4,15 @@ use mathlib.Core.Path.{sym, ap, _∙_, subst}
 use mathlib.Core.Logic.{_↔_}
 use mathlib.Core.List.{List·Memᴰ}
 use Prim.Native.Nat.{ℕ}
-use Rattle.stores.specs.Sets.{Within}
+use Rattle.stores.specs.FactSets.{Within}
 use Rattle.stores.specs.Stores.{join, leastStore}
-use Rattle.stores.specs.StoreLaws.{join-comm}
+use Rattle.store_laws.specs.StoreLaws.{join-comm}
 use Rattle.sheets.specs.Sheet.{Configuration, Sheet}
 use Rattle.sheets.specs.WellFormed.{OfSheet, WellFormed}
 use Rattle.moves.specs.Moves.{add}
 use Rattle.refinement.specs.Refinement.{Bisimulation, Bisimilar}
 use Rattle.comparison.specs.SheetTransitions.{transitions}
-use Rattle.comparison.specs.SheetMoves.{lawful, move-of}
+use Rattle.comparison_laws.specs.SheetMoves.{lawful, move-of}
 use Rattle.paper.specs.Terms.{Conf, Reads, sideBySide}
 use Rattle.paper.specs.Bisimulations.{Con, Moves, with-added, SaturatedBarbedBisimulation, SaturatedBarbedBisimilar}
 use Rattle.paper.specs.Bridge.{transition-to-move, reduction-to-move, move-to-reduction, side-by-side-reads}
@@ -208,10 +208,11 @@ module _ (s : Sheet) where
     )
 
     -- the same for two starts of the sheet
-    pub starts-agree : (p q : Configuration) → List·Memᴰ p (s .starts) → List·Memᴰ q (s .starts)
+    pub starts-agree : ((p : Configuration) → List·Memᴰ p (s .starts) → OfSheet s p)
+        → (p q : Configuration) → List·Memᴰ p (s .starts) → List·Memᴰ q (s .starts)
         → SaturatedBarbedBisimilar s (written p) (written q) ↔ Bisimilar (transitions s) p q
-    starts-agree p q mp mq =
-        let op : OfSheet s p = wf .starts-fit p mp in
-        let oq : OfSheet s q = wf .starts-fit q mq in
+    starts-agree fit p q mp mq =
+        let op : OfSheet s p = fit p mp in
+        let oq : OfSheet s q = fit q mq in
         saturated-agrees (written p) (written q) p q op oq (side-by-side-reads s wf p (op .process))
         (side-by-side-reads s wf q (oq .process))

@@ -1,7 +1,7 @@
 -- Source 001, sections 2 and 3: barbs and Definitions 2 to 7, over the paper's configurations of a sheet, as they are printed.
 use mathlib.Core.Path.{_≡_}
 use Prim.Native.Nat.{ℕ}
-use Rattle.stores.specs.Sets.{Within}
+use Rattle.stores.specs.FactSets.{Within}
 use Rattle.stores.specs.Stores.{Constraint, join}
 use Rattle.sheets.specs.Sheet.{Sheet}
 use Rattle.paper.specs.Terms.{Term, Conf}

@@ -3,13 +3,14 @@
 use mathlib.Core.Path.{_≡_, refl, sym, ap, ap₂, _∙_, subst}
 use mathlib.Core.List.{List, [], _∷_, _++_, List·Memᴰ, List·Memᴰ·head, List·Memᴰ·tail}
 use Prim.Native.Nat.{ℕ}
-use Rattle.lists.specs.Ascending.{sortUp, sortUp-only, sortUp-same, arrange-keeps, arrange-only}
+use Rattle.lists.specs.Lists.{sortUp}
+use Rattle.list_laws.specs.AscendingLaws.{sortUp-only, sortUp-same, arrange-keeps, arrange-only}
 use Rattle.stores.specs.Stores.{leastStore}
 use Rattle.sheets.specs.Sheet.{Configuration, Sheet, opened}
 use Rattle.sheets.specs.WellFormed.{Process, WellFormed}
-use Rattle.moves.specs.Orders.{Move, moveOrder}
-use Rattle.moves.specs.Moves.{movesFrom, moves}
-use Rattle.moves.specs.Moves.{Moves as SheetMoves, Reduces as SheetReduces}
+use Rattle.moves.specs.Orders.{Move}
+use Rattle.move_laws.specs.OrderLaws.{moveOrder}
+use Rattle.moves.specs.Moves.{movesFrom, moves, Moves as SheetMoves, Reduces as SheetReduces}
 use Rattle.paper.specs.Terms.{Term, call, Conf, Opens, opens-nil, opens-call, opens-parallel, Reads, sideBySide}
 use Rattle.paper.specs.Bisimulations.{Con, Moves, Reduces}
 use Rattle.paper.specs.Agreement.{reduction-transition}

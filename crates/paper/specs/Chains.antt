@@ -1,7 +1,7 @@
 -- Chains of pairs of a relation. Where the relation is symmetric, keeps barbs, is upward closed and answers reductions by chains,
 -- the chains are a saturated barbed bisimulation.
 use Prim.Native.Nat.{ℕ}
-use Rattle.stores.specs.Sets.{Within}
+use Rattle.stores.specs.FactSets.{Within}
 use Rattle.sheets.specs.Sheet.{Sheet}
 use Rattle.paper.specs.Terms.{Conf}
 use Rattle.paper.specs.Bisimulations.{Con, Reduces, with-added, Symmetric, KeepsBarbs, SaturatedBarbedBisimulation}

@@ -3,8 +3,9 @@
 use mathlib.Core.Path.{refl, sym, ap, _∙_, subst}
 use Prim.Native.Nat.{ℕ, zero, suc, _<_}
 use native.Mathlib.Omega.{arith}
-use Rattle.stores.specs.Sets.{Within, within-refl, within-trans, within-le}
-use Rattle.stores.specs.StoreLaws.{join-left, join-right}
+use Rattle.stores.specs.FactSets.{Within}
+use Rattle.store_laws.specs.FactSetLaws.{within-refl, within-trans, within-le}
+use Rattle.store_laws.specs.StoreLaws.{join-left, join-right}
 use Rattle.sheets.specs.Sheet.{Sheet}
 use Rattle.paper.specs.Terms.{Conf}
 use Rattle.paper.specs.Bisimulations.{Con, Reduces, Moves, with-added, RedundantIn, IrredundantBisimulation}

@@ -7,29 +7,29 @@ use mathlib.Core.List.{List, [], _∷_, List·Memᴰ, List·Memᴰ·head, List·
 use Prim.Native.Nat.{ℕ}
 use native.Mathlib.Omega.{arith}
 use lib.ListN.{getD}
-use Rattle.lists.specs.Tests.{true-false}
-use Rattle.lists.specs.Ascending.{sortUp}
+use Rattle.list_laws.specs.TestLaws.{true-false}
+use Rattle.lists.specs.Lists.{sortUp}
 use Rattle.stores.specs.Stores.{closure, passes, pass, conclusions}
 use Rattle.sheets.specs.Sheet.{Configuration, openWithin, opened}
 use Rattle.sheets.specs.WellFormed.{OfSheet}
 use Rattle.moves.specs.Orders.{Move}
 use Rattle.moves.specs.Moves.{labels, stepsWithin, moves, Moves}
-use Rattle.refinement.specs.Bisimilarity.{member-of}
+use Rattle.refinement_laws.specs.StableRounds.{member-of}
 use Rattle.comparison.specs.SheetTransitions.{transitions}
-use Rattle.comparison.specs.SheetMoves.{lawful}
-use Rattle.comparison.specs.Limits.{limits}
+use Rattle.comparison_laws.specs.SheetMoves.{lawful}
+use Rattle.comparison.specs.CallLimits.{limits}
 use Rattle.comparison.specs.Classes.{numberedFrom, share}
 use Rattle.comparison.specs.Set.{over, exploredFrom, explored}
 use Rattle.comparison.specs.Rounds.{refined, classes, roundsFrom, rounds, resultOf}
-use Rattle.comparison.specs.SetLaws.{explored-seeds}
-use Rattle.comparison.specs.Theorem.{whole, result-classes, member-some}
+use Rattle.comparison_laws.specs.SetLaws.{explored-seeds}
+use Rattle.comparison_laws.specs.Theorem.{whole, result-classes, member-some}
 use Rattle.paper.specs.Terms.{Conf, nil, call, opens-call, Reads}
 use Rattle.paper.specs.Bisimulations.{SaturatedBarbedBisimilar, SyntacticBisimilar}
 use Rattle.paper.specs.Bridge.{transition-to-move, move-to-transition}
 use Rattle.paper.specs.Bisimilarity.{saturated-agrees}
 use Rattle.paper.specs.NodeSteps.{no-move}
 use Rattle.paper.specs.Algorithm.{IR, Partition}
-use Rattle.paper.specs.Figure2.{sheetOfPaper, paper-well-formed, members, seeds, conf, no-facts, z<5, z<7⊔x<7, z<5⊔x<7, z<5⊔x<5, T, P, P+Q, S, R+S, R'+S}
+use Rattle.paper.specs.Figure2.{sheetOfPaper, paper-admissible, paper-well-formed, members, seeds, conf, no-facts, z<5, z<7⊔x<7, z<5⊔x<7, z<5⊔x<5, T, P, P+Q, S, R+S, R'+S}
 
 -- a node of the running example as one of the paper's processes, at a store
 abbrev pub called : ℕ → ℕ → Conf
@@ -41,7 +41,7 @@ ended store = record { term = nil; store = store }
 
 seeds-of : (p : Configuration) → List·Memᴰ p seeds → OfSheet sheetOfPaper p
 seeds-of p m =
-    paper-well-formed .starts-fit p
+    paper-admissible .starts-fit p
     (⊎-elim (λ (e : p ≡ conf R'+S no-facts). List·Memᴰ·tail (List·Memᴰ·tail (List·Memᴰ·head e)))
     (λ (k : List·Memᴰ p (conf S no-facts ∷ conf R+S no-facts ∷ [])).
     ⊎-elim (λ (e : p ≡ conf S no-facts). List·Memᴰ·head e)

@@ -17,14 +17,14 @@ use mathlib.Core.List.{List, [], _∷_, map}
 use Prim.Native.Nat.{ℕ, zero, suc}
 use lib.ListN.{length}
 use lib.Dec.{eqb}
-use Rattle.lists.specs.Members.{select}
+use Rattle.lists.specs.Lists.{select}
 use Rattle.stores.specs.Stores.{closure, passes, pass, conclusions}
 use Rattle.sheets.specs.Sheet.{tell, ask, either, Configuration, Sheet, openWithin}
-use Rattle.sheets.specs.WellFormed.{WellFormed}
+use Rattle.sheets.specs.WellFormed.{WellFormed, Admissible}
 use Rattle.sheets.specs.Reading.{got, recordsFrom, countAt, setAt, nameBytes, nameAt, namesFrom, factsAt, premiseAt, ruleAt, rulesAt, kindAt, firstAt, secondAt, nodeAt, nodesAt, threadAt, threadsFrom, startAt, startsAt, readSheet}
-use Rattle.sheets.specs.ReadingLaws.{read-well-formed}
+use Rattle.sheet_laws.specs.ReadingLaws.{read-admissible}
 use Rattle.moves.specs.Moves.{labels, stepsWithin, moves}
-use Rattle.comparison.specs.Limits.{limits}
+use Rattle.comparison.specs.CallLimits.{limits}
 use Rattle.comparison.specs.Classes.{numberedFrom, classOf}
 use Rattle.comparison.specs.Set.{exploredFrom, explored}
 use Rattle.comparison.specs.Rounds.{refined, classes, roundsFrom, rounds, resultOf}
@@ -69,8 +69,11 @@ pub paper-reads : readSheet bytesOfPaper ≡ got sheetOfPaper (length bytesOfPap
 unfolding readSheet recordsFrom countAt setAt nameBytes nameAt namesFrom factsAt premiseAt ruleAt rulesAt kindAt firstAt secondAt nodeAt nodesAt threadAt threadsFrom startAt startsAt openWithin closure passes pass conclusions
 paper-reads = refl
 
+pub paper-admissible : Admissible sheetOfPaper
+paper-admissible = read-admissible bytesOfPaper sheetOfPaper (length bytesOfPaper) paper-reads
+
 pub paper-well-formed : WellFormed sheetOfPaper
-paper-well-formed = read-well-formed bytesOfPaper sheetOfPaper (length bytesOfPaper) paper-reads
+paper-well-formed = paper-admissible .well-formed
 
 -- ---- the configurations: a process, then its store
 abbrev pub conf : List ℕ → ℕ → Configuration

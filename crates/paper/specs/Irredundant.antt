@@ -3,7 +3,8 @@
 use mathlib.Core.Path.{_≡_, sym, ap, _∙_, subst}
 use Prim.Native.Nat.{ℕ}
 use native.Mathlib.Decide.{ℕ-discrete}
-use Rattle.stores.specs.Sets.{Within, within-trans, within-antisym}
+use Rattle.stores.specs.FactSets.{Within}
+use Rattle.store_laws.specs.FactSetLaws.{within-trans, within-antisym}
 use Rattle.sheets.specs.Sheet.{Sheet}
 use Rattle.sheets.specs.WellFormed.{WellFormed}
 use Rattle.paper.specs.Terms.{Conf}

@@ -5,13 +5,14 @@ use mathlib.Core.Logic.{_↔_}
 use mathlib.Core.Bool.{Bool, true, false, not, _&&_}
 use mathlib.Core.List.{List·Memᴰ}
 use Prim.Native.Nat.{ℕ}
-use Rattle.lists.specs.Tests.{true-false, and-left, and-right, and-intro, not-back, not-passes}
-use Rattle.lists.specs.Members.{any, mem-select, select-mem, any-yes, any-no}
+use Rattle.list_laws.specs.TestLaws.{true-false, and-left, and-right, and-intro, not-back, not-passes}
+use Rattle.lists.specs.Lists.{any}
+use Rattle.list_laws.specs.Members.{mem-select, select-mem, any-yes, any-no}
 use Rattle.stores.specs.Stores.{join, strictlyBelow}
-use Rattle.stores.specs.StoreLaws.{includes-within, within-includes, below-within, within-below}
+use Rattle.store_laws.specs.StoreLaws.{includes-within, within-includes, below-within, within-below}
 use Rattle.sheets.specs.Sheet.{Sheet}
 use Rattle.moves.specs.Moves.{constraints, isMinimal, makesTrue, labels}
-use Rattle.moves.specs.LabelLaws.{constraints-all, constraints-only}
+use Rattle.move_laws.specs.LabelLaws.{constraints-all, constraints-only}
 use Rattle.paper.specs.Tables.{Minimal}
 
 module _ (s : Sheet) (d c : ℕ) where

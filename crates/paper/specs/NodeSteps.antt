@@ -4,11 +4,12 @@ use mathlib.Core.Logic.{_⊎_, inl, inr, ⊎-elim}
 use mathlib.Core.List.{List, [], _++_, map, List·Memᴰ, List·Memᴰ·head, List·Memᴰ·not-nil, List·Memᴰ·append-cases, List·Memᴰ·eq-of-singleton, Memᴰ·append-left, Memᴰ·append-right}
 use Prim.Native.Nat.{ℕ, zero, suc, _<_}
 use native.Mathlib.Omega.{arith}
-use Rattle.lists.specs.Members.{mem-map, map-mem}
+use lib.ListN.{length}
+use Rattle.list_laws.specs.Members.{mem-map, map-mem}
 use Rattle.stores.specs.Stores.{join, leastStore}
 use Rattle.sheets.specs.Sheet as sheet
 use Rattle.sheets.specs.Sheet.{Node, Sheet, nodeOf, opened}
-use Rattle.sheets.specs.OpeningLaws.{LowerNames, Lower}
+use Rattle.sheet_laws.specs.Ranks.{OfParts, Part, Ranked}
 use Rattle.moves.specs.Moves.{Step, labels, beside, stepsOf, stepsWithin}
 use Rattle.paper.specs.Terms.{Term, nil, tell, ask, parallel, choice, call, bodyOf, Opens, opens-nil, opens-call, opens-parallel}
 use Rattle.paper.specs.Tables.{Minimal, Transition, LR1, LR2, LR3-left, LR3-right, LR4-left, LR4-right, LR6}
@@ -85,11 +86,11 @@ module _ (s : Sheet) (d : ℕ) where
     same = x .same;
   }
 
-  body-stepped : (k : ℕ) (inner : ℕ → List Step) (v : Node) → LowerNames k v
-      → ((j a d' : ℕ) (t : Term) → j < k → Transition s (call j) d a t d' → Stepped (inner j) a t d')
+  body-stepped : (rank : ℕ → ℕ) (k : ℕ) (inner : ℕ → List Step) (v : Node) → OfParts (Part rank (length (s .nodes)) k) v
+      → ((j a d' : ℕ) (t : Term) → rank j < rank k → Transition s (call j) d a t d' → Stepped (inner j) a t d')
       → (a d' : ℕ) (t : Term) → Transition s (bodyOf v) d a t d' → Stepped (stepsOf s d inner v) a t d'
-  body-stepped k inner sheet.stop low ih a d' t r = absurd (no-move s r)
-  body-stepped k inner (sheet.tell c) low ih a d' t r =
+  body-stepped rank k inner sheet.stop low ih a d' t r = absurd (no-move s r)
+  body-stepped rank k inner (sheet.tell c) low ih a d' t r =
       let x = from-tell s r in
       record {
         step = record { label = leastStore (s .rules); store = join (s .rules) d c; threads = [] };
@@ -100,7 +101,7 @@ module _ (s : Sheet) (d : ℕ) where
         opens = subst (λ (u : Term). Opens (s .nodes) u []) (sym (x .1)) opens-nil;
         same = same-refl [];
       }
-  body-stepped k inner (sheet.ask c q) low ih a d' t r =
+  body-stepped rank k inner (sheet.ask c q) low ih a d' t r =
       let x = from-ask s r in
       record {
         step = record { label = a; store = join (s .rules) d a; threads = opensTo q };
@@ -112,10 +113,10 @@ module _ (s : Sheet) (d : ℕ) where
         opens = subst (λ (u : Term). Opens (s .nodes) u (opensTo q)) (sym (x .1)) (opens-call q);
         same = same-refl (opensTo q);
       }
-  body-stepped k inner (sheet.both p q) low ih a d' t r =
+  body-stepped rank k inner (sheet.both p q) low ih a d' t r =
       ⊎-elim
       (λ (x : (p' : Term) × Transition s (call p) d a p' d' × (t ≡ parallel p' (call q))).
-      let y = ih p a d' (x .0) (low .0) (x .1) in
+      let y = ih p a d' (x .0) (low .0 .lower) (x .1) in
       record {
         step = beside (opensTo q) (y .step);
         among = Memᴰ·append-left (map (beside (opensTo p)) (inner q)) (map-mem (beside (opensTo q)) (y .among));
@@ -126,7 +127,7 @@ module _ (s : Sheet) (d : ℕ) where
         same = same-left (opensTo q) (y .same);
       })
       (λ (x : (q' : Term) × Transition s (call q) d a q' d' × (t ≡ parallel (call p) q')).
-      let y = ih q a d' (x .0) (low .1) (x .1) in
+      let y = ih q a d' (x .0) (low .1 .lower) (x .1) in
       record {
         step = beside (opensTo p) (y .step);
         among = Memᴰ·append-right (map (beside (opensTo q)) (inner p)) (map-mem (beside (opensTo p)) (y .among));
@@ -137,18 +138,18 @@ module _ (s : Sheet) (d : ℕ) where
         same = same-trans (same-swap (opensTo p) (y .threads)) (same-left (opensTo p) (y .same));
       })
       (from-parallel s r)
-  body-stepped k inner (sheet.either p q) low ih a d' t r =
+  body-stepped rank k inner (sheet.either p q) low ih a d' t r =
       ⊎-elim
-      (λ (x : Transition s (call p) d a t d'). stepped-more (λ m i. Memᴰ·append-left (inner q) i) (ih p a d' t (low .0) x))
-      (λ (x : Transition s (call q) d a t d'). stepped-more (λ m i. Memᴰ·append-right (inner p) i) (ih q a d' t (low .1) x))
+      (λ (x : Transition s (call p) d a t d'). stepped-more (λ m i. Memᴰ·append-left (inner q) i) (ih p a d' t (low .0 .lower) x))
+      (λ (x : Transition s (call q) d a t d'). stepped-more (λ m i. Memᴰ·append-right (inner p) i) (ih q a d' t (low .1 .lower) x))
       (from-choice s r)
 
-  pub call-stepped : Lower (s .nodes) → (n k a d' : ℕ) (t : Term) → k < n → Transition s (call k) d a t d'
+  pub call-stepped : {rank : ℕ → ℕ} → Ranked rank (s .nodes) → (n k a d' : ℕ) (t : Term) → rank k < n → Transition s (call k) d a t d'
       → Stepped (stepsWithin n s d k) a t d'
   unfolding stepsWithin
   call-stepped low zero k a d' t l r = absurd (omega arith)
-  call-stepped low (suc n) k a d' t l r =
-      body-stepped k (stepsWithin n s d) (nodeOf (s .nodes) k) (low .at k)
+  call-stepped {rank} low (suc n) k a d' t l r =
+      body-stepped rank k (stepsWithin n s d) (nodeOf (s .nodes) k) (low .parts k)
       (λ j b e u i x. call-stepped low n j b e u (omega arith) x) a d' t (from-call s r)
 
   -- ---- and back: each step of a node is a transition of its call

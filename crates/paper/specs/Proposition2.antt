@@ -9,23 +9,24 @@ use native.Mathlib.Omega.{arith}
 use lib.ListN.{length, getD}
 use lib.Dec.{ltb}
 use borrow.Author.Tests.{ltb-true}
-use Rattle.lists.specs.Tests.{or-fails, Tested, tested, passes, fails}
-use Rattle.lists.specs.Members.{any, any-yes}
-use Rattle.lists.specs.Counting.{distinct-length, ascends-distinct}
+use Rattle.list_laws.specs.TestLaws.{or-fails, Tested, tested, passes, fails}
+use Rattle.lists.specs.Lists.{any}
+use Rattle.list_laws.specs.Members.{any-yes}
+use Rattle.list_laws.specs.Counting.{distinct-length, ascends-distinct}
 use Rattle.sheets.specs.Sheet.{Configuration, Sheet}
 use Rattle.sheets.specs.WellFormed.{OfSheet, WellFormed}
-use Rattle.moves.specs.Orders.{configurationOrder}
+use Rattle.move_laws.specs.OrderLaws.{configurationOrder}
 use Rattle.refinement.specs.Refinement.{Member}
-use Rattle.refinement.specs.Bisimilarity.{member-of, stable-bisimilar}
+use Rattle.refinement_laws.specs.StableRounds.{member-of, stable-bisimilar}
 use Rattle.comparison.specs.SheetTransitions.{transitions}
-use Rattle.comparison.specs.SheetMoves.{lawful}
-use Rattle.comparison.specs.Limits.{Limits}
+use Rattle.comparison_laws.specs.SheetMoves.{lawful}
+use Rattle.comparison.specs.CallLimits.{Limits}
 use Rattle.comparison.specs.Set.{over, explored}
 use Rattle.comparison.specs.Classes.{share}
 use Rattle.comparison.specs.Rounds.{classes, rounds, resultOf}
-use Rattle.comparison.specs.SetLaws.{explored-seeds, explored-member, explored-ascends, explored-closed}
-use Rattle.comparison.specs.ResultLaws.{result-is, rounds-of, rounds-at}
-use Rattle.comparison.specs.Theorem.{whole, result-classes, result-round, member-some}
+use Rattle.comparison_laws.specs.SetLaws.{explored-seeds, explored-member, explored-ascends, explored-closed}
+use Rattle.comparison_laws.specs.ResultLaws.{result-is, rounds-of, rounds-at}
+use Rattle.comparison_laws.specs.Theorem.{whole, result-classes, result-round, member-some}
 use Rattle.comparison.specs.Promise.{ResultRound}
 use Rattle.paper.specs.Terms.{Conf, Reads}
 use Rattle.paper.specs.Bisimulations.{SaturatedBarbedBisimilar}

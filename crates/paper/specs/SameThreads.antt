@@ -6,8 +6,9 @@ use Prim.Native.Nat.{ℕ}
 use native.Mathlib.Omega.{arith}
 use lib.Dec.{eqb, leb}
 use borrow.Author.Tests.{eq-eqb, ne-eqb, leb-false}
-use Rattle.lists.specs.Ascending.{insertUp, sortUp, sortUp-same, sortUp-notFalling}
-use Rattle.lists.specs.SortingLaws.{insertUp-comm, insertAll, insertAll-sorted}
+use Rattle.lists.specs.Lists.{insertUp, sortUp}
+use Rattle.list_laws.specs.AscendingLaws.{sortUp-same, sortUp-notFalling}
+use Rattle.list_laws.specs.SortingLaws.{insertUp-comm, insertAll, insertAll-sorted}
 
 -- the same threads, each as often, in any order
 pub record SameThreads (xs ys : List ℕ) : Type 0 where

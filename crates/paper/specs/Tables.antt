@@ -2,7 +2,7 @@
 -- the tables omit as symmetric stand here too.
 use mathlib.Core.Path.{_≡_}
 use Prim.Native.Nat.{ℕ}
-use Rattle.stores.specs.Sets.{Within}
+use Rattle.stores.specs.FactSets.{Within}
 use Rattle.stores.specs.Stores.{Constraint, join, leastStore}
 use Rattle.sheets.specs.Sheet.{Sheet}
 use Rattle.paper.specs.Terms.{Term, nil, tell, ask, parallel, choice, call, defined}

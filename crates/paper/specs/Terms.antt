@@ -3,7 +3,7 @@
 use mathlib.Core.Path.{_≡_}
 use mathlib.Core.List.{List, [], _∷_, _++_}
 use Prim.Native.Nat.{ℕ}
-use Rattle.lists.specs.Ascending.{sortUp}
+use Rattle.lists.specs.Lists.{sortUp}
 use Rattle.sheets.specs.Sheet as sheet
 use Rattle.sheets.specs.Sheet.{Node, Configuration, Sheet, nodeOf, opened}
 

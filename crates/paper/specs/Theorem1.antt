@@ -6,9 +6,9 @@ use Prim.Native.Nat.{ℕ}
 use Rattle.sheets.specs.Sheet.{Configuration, Sheet}
 use Rattle.sheets.specs.WellFormed.{OfSheet, WellFormed}
 use Rattle.refinement.specs.Refinement.{Member, Bisimilar}
-use Rattle.refinement.specs.Bisimilarity.{Stable, member-of, stable-bisimilar}
+use Rattle.refinement_laws.specs.StableRounds.{Stable, member-of, stable-bisimilar}
 use Rattle.comparison.specs.SheetTransitions.{transitions}
-use Rattle.comparison.specs.SheetMoves.{lawful}
+use Rattle.comparison_laws.specs.SheetMoves.{lawful}
 use Rattle.paper.specs.Terms.{Conf, Reads}
 use Rattle.paper.specs.Bisimulations.{RedundantIn, SaturatedBarbedBisimulation, IrredundantBisimulation, SaturatedBarbedBisimilar, IrredundantBisimilar}
 use Rattle.paper.specs.Bisimilarity.{saturated-agrees}

@@ -3,16 +3,17 @@
 use mathlib.Core.Path.{_≡_, sym, ap, _∙_, subst}
 use mathlib.Core.List.{List, map, List·Memᴰ}
 use Prim.Native.Nat.{ℕ}
-use Rattle.lists.specs.Members.{map-mem, concatMap, concatMap-mem}
+use Rattle.list_laws.specs.Members.{map-mem, concatMap-mem}
+use Rattle.lists.specs.Lists.{concatMap}
 use Rattle.stores.specs.Stores.{leastStore}
 use Rattle.sheets.specs.Sheet.{Configuration, Sheet}
 use Rattle.sheets.specs.WellFormed.{OfSheet, WellFormed}
 use Rattle.moves.specs.Moves.{Moves, add, constraints}
-use Rattle.moves.specs.LabelLaws.{constraints-all}
+use Rattle.move_laws.specs.LabelLaws.{constraints-all}
 use Rattle.refinement.specs.Refinement.{Member, seed, target, added}
-use Rattle.refinement.specs.Laws.{Lawful}
+use Rattle.refinement_laws.specs.LawfulMoves.{Lawful}
 use Rattle.comparison.specs.SheetTransitions.{transitions}
-use Rattle.comparison.specs.SheetMoves.{lawful}
+use Rattle.comparison_laws.specs.SheetMoves.{lawful}
 use Rattle.comparison.specs.Set.{explored}
 use Rattle.paper.specs.Bisimulations.{Con}
 use Rattle.paper.specs.Proposition2.{Ends, limitsOf, proposition-2-finite}

@@ -3,9 +3,9 @@
 use mathlib.Core.Path.{_≡_, refl, sym, ap, _∙_, subst}
 use mathlib.Core.Logic.{_↔_}
 use Prim.Native.Nat.{ℕ}
-use Rattle.stores.specs.Sets.{Within}
+use Rattle.stores.specs.FactSets.{Within}
 use Rattle.stores.specs.Stores.{Closed, join}
-use Rattle.stores.specs.StoreLaws.{join-left, join-assoc, within-join}
+use Rattle.store_laws.specs.StoreLaws.{join-left, join-assoc, within-join}
 use Rattle.sheets.specs.Sheet.{Sheet}
 use Rattle.sheets.specs.WellFormed.{WellFormed}
 use Rattle.paper.specs.Terms.{Conf}

@@ -8,15 +8,15 @@ use native.Mathlib.Omega.{arith}
 use lib.ListN.{length, List·getD-eq-default}
 use lib.Dec.{ltb}
 use borrow.Author.Tests.{ltb-true, ltb-false}
-use Rattle.lists.specs.Members.{mem-map, map-mem}
+use Rattle.list_laws.specs.Members.{mem-map, map-mem}
 use Rattle.sheets.specs.Sheet as sheet
 use Rattle.sheets.specs.Sheet.{Node, Sheet, nodeOf, opened, openingOf, openWithin}
 use Rattle.sheets.specs.WellFormed.{WellFormed}
-use Rattle.sheets.specs.OpeningLaws.{LowerNames, Lower}
-use Rattle.sheets.specs.ReadingLaws.{well-formed-lower}
+use Rattle.sheet_laws.specs.Ranks.{OfParts, Part, Ranked, rankOf}
+use Rattle.sheet_laws.specs.ReadingLaws.{well-formed-ranked}
 use Rattle.moves.specs.Orders.{Move}
 use Rattle.moves.specs.Moves.{Step, steps, moveOf, movesFrom}
-use Rattle.moves.specs.StepLaws.{opened-is}
+use Rattle.move_laws.specs.NestingLaws.{opened-is}
 use Rattle.paper.specs.Terms.{Term, parallel, call, bodyOf, Opens, opens-nil, opens-call, opens-parallel}
 use Rattle.paper.specs.Tables.{Transition, LR3-left, LR3-right}
 use Rattle.paper.specs.SameThreads.{SameThreads, same-refl, same-sym, same-trans, same-equal, same-swap, same-left, same-right, same-middle, same-assoc, same-rest}
@@ -85,36 +85,36 @@ module _ (s : Sheet) (d : ℕ) where
   }
 
   module _ (wf : WellFormed s) where
-    low : Lower (s .nodes)
-    low = well-formed-lower s wf
+    low : Ranked rankOf (s .nodes)
+    low = well-formed-ranked s wf
 
-    call-moved : (n k a d' : ℕ) (t : Term) → k < n → Transition s (call k) d a t d' → ThreadMoved (opened (s .nodes) k) a t d'
+    call-moved : (n k a d' : ℕ) (t : Term) → rankOf k < n → Transition s (call k) d a t d' → ThreadMoved (opened (s .nodes) k) a t d'
     call-moved zero k a d' t l r = absurd (omega arith)
     call-moved (suc n) k a d' t l r = within (ltb k (length (s .nodes))) refl (λ j b e u i x. call-moved n j b e u i x)
       where
-        by-kind : k < length (s .nodes) → (v : Node) → nodeOf (s .nodes) k ≡ v → LowerNames k v
-            → ((j b e : ℕ) (u : Term) → j < n → Transition s (call j) d b u e → ThreadMoved (opened (s .nodes) j) b u e)
+        by-kind : k < length (s .nodes) → (v : Node) → nodeOf (s .nodes) k ≡ v → OfParts (Part rankOf (length (s .nodes)) k) v
+            → ((j b e : ℕ) (u : Term) → rankOf j < n → Transition s (call j) d b u e → ThreadMoved (opened (s .nodes) j) b u e)
             → ThreadMoved (openingOf (opensTo s d) k v) a t d'
         by-kind i sheet.stop e lv ih = absurd (no-move s (subst (λ (v : Node). Transition s (bodyOf v) d a t d') e (from-call s r)))
-        by-kind i (sheet.tell c) e lv ih = moved-alone (call-stepped s d low (length (s .nodes)) k a d' t i r)
-        by-kind i (sheet.ask c q) e lv ih = moved-alone (call-stepped s d low (length (s .nodes)) k a d' t i r)
+        by-kind i (sheet.tell c) e lv ih = moved-alone (call-stepped s d low (length (s .nodes)) k a d' t (low .small k i) r)
+        by-kind i (sheet.ask c q) e lv ih = moved-alone (call-stepped s d low (length (s .nodes)) k a d' t (low .small k i) r)
         by-kind i (sheet.both p q) e lv ih =
             ⊎-elim
             (λ (x : (p' : Term) × Transition s (call p) d a p' d' × (t ≡ parallel p' (call q))).
             subst (λ (u : Term). ThreadMoved (opensTo s d p ++ opensTo s d q) a u d') (sym (x .2))
-            (moved-left (opens-call q) (ih p a d' (x .0) (omega (arith, lv .0)) (x .1))))
+            (moved-left (opens-call q) (ih p a d' (x .0) (omega (arith, lv .0 .lower)) (x .1))))
             (λ (x : (q' : Term) × Transition s (call q) d a q' d' × (t ≡ parallel (call p) q')).
             subst (λ (u : Term). ThreadMoved (opensTo s d p ++ opensTo s d q) a u d') (sym (x .2))
-            (moved-right (opens-call p) (ih q a d' (x .0) (omega (arith, lv .1)) (x .1))))
+            (moved-right (opens-call p) (ih q a d' (x .0) (omega (arith, lv .1 .lower)) (x .1))))
             (from-parallel s (subst (λ (v : Node). Transition s (bodyOf v) d a t d') e (from-call s r)))
-        by-kind i (sheet.either p q) e lv ih = moved-alone (call-stepped s d low (length (s .nodes)) k a d' t i r)
+        by-kind i (sheet.either p q) e lv ih = moved-alone (call-stepped s d low (length (s .nodes)) k a d' t (low .small k i) r)
 
         within : (b : Bool) → ltb k (length (s .nodes)) ≡ b
-            → ((j b e : ℕ) (u : Term) → j < n → Transition s (call j) d b u e → ThreadMoved (opened (s .nodes) j) b u e)
+            → ((j b e : ℕ) (u : Term) → rankOf j < n → Transition s (call j) d b u e → ThreadMoved (opened (s .nodes) j) b u e)
             → ThreadMoved (opened (s .nodes) k) a t d'
         within true e ih =
             let i : k < length (s .nodes) = ltb-true k (length (s .nodes)) e in
-            moved-threads (sym (opened-is (s .nodes) low k i)) (by-kind i (nodeOf (s .nodes) k) refl (low .at k) ih)
+            moved-threads (sym (opened-is (s .nodes) low k i)) (by-kind i (nodeOf (s .nodes) k) refl (low .parts k) ih)
         within false e ih =
             absurd (no-move s (subst (λ (v : Node). Transition s (bodyOf v) d a t d')
             (List·getD-eq-default (s .nodes) sheet.stop {n = k} (ltb-false k (length (s .nodes)) e)) (from-call s r)))
@@ -122,7 +122,7 @@ module _ (s : Sheet) (d : ℕ) where
     pub term-moved : {p : Term} {ts : List ℕ} → Opens (s .nodes) p ts → (a d' : ℕ) (t : Term) → Transition s p d a t d'
         → ThreadMoved ts a t d'
     term-moved opens-nil a d' t r = absurd (no-move s r)
-    term-moved (opens-call k) a d' t r = call-moved (suc k) k a d' t (omega arith) r
+    term-moved (opens-call k) a d' t r = call-moved (suc (rankOf k)) k a d' t (omega arith) r
     term-moved (opens-parallel {p} {q} {ps} {qs} o u) a d' t r =
         joined (λ p' x. term-moved o a d' p' x) (λ q' x. term-moved u a d' q' x)
       where
@@ -203,13 +203,13 @@ module _ (s : Sheet) (d : ℕ) where
       List·Memᴰ·not-nil (subst (λ (v : Node). List·Memᴰ j (openingOf (openWithin f (s .nodes)) k v)) e i)
 
   module _ (wf : WellFormed s) where
-    call-moves : (n k j : ℕ) (m : Step) → k < n → List·Memᴰ j (opened (s .nodes) k) → List·Memᴰ m (steps s d j)
+    call-moves : (n k j : ℕ) (m : Step) → rankOf k < n → List·Memᴰ j (opened (s .nodes) k) → List·Memᴰ m (steps s d j)
         → TermMoves (call k) (opened (s .nodes) k) j m
     call-moves zero k j m l i x = absurd (omega arith)
     call-moves (suc n) k j m l i x = within (ltb k (length (s .nodes))) refl (λ h o z y. call-moves n h j m o z y)
       where
-        by-kind : (v : Node) → nodeOf (s .nodes) k ≡ v → LowerNames k v
-            → ((h : ℕ) → h < n → List·Memᴰ j (opened (s .nodes) h) → List·Memᴰ m (steps s d j)
+        by-kind : (v : Node) → nodeOf (s .nodes) k ≡ v → OfParts (Part rankOf (length (s .nodes)) k) v
+            → ((h : ℕ) → rankOf h < n → List·Memᴰ j (opened (s .nodes) h) → List·Memᴰ m (steps s d j)
             → TermMoves (call h) (opened (s .nodes) h) j m)
             → List·Memᴰ j (openingOf (opensTo s d) k v) → TermMoves (call k) (openingOf (opensTo s d) k v) j m
         by-kind sheet.stop e lv ih o = absurd (List·Memᴰ·not-nil o)
@@ -218,21 +218,21 @@ module _ (s : Sheet) (d : ℕ) where
         by-kind (sheet.both p q) e lv ih o =
             moves-body (sheet.both p q) e
             (⊎-elim
-            (λ (y : List·Memᴰ j (opensTo s d p)). moves-left (opens-call q) (ih p (omega (arith, lv .0)) y x))
-            (λ (y : List·Memᴰ j (opensTo s d q)). moves-right (opens-call p) (ih q (omega (arith, lv .1)) y x))
+            (λ (y : List·Memᴰ j (opensTo s d p)). moves-left (opens-call q) (ih p (omega (arith, lv .0 .lower)) y x))
+            (λ (y : List·Memᴰ j (opensTo s d q)). moves-right (opens-call p) (ih q (omega (arith, lv .1 .lower)) y x))
             (List·Memᴰ·append-cases (opensTo s d p) o))
         by-kind (sheet.either p q) e lv ih o = moves-alone o x
 
         within : (b : Bool) → ltb k (length (s .nodes)) ≡ b
-            → ((h : ℕ) → h < n → List·Memᴰ j (opened (s .nodes) h) → List·Memᴰ m (steps s d j)
+            → ((h : ℕ) → rankOf h < n → List·Memᴰ j (opened (s .nodes) h) → List·Memᴰ m (steps s d j)
             → TermMoves (call h) (opened (s .nodes) h) j m)
             → TermMoves (call k) (opened (s .nodes) k) j m
         within true e ih =
-            let low : Lower (s .nodes) = well-formed-lower s wf in
+            let low : Ranked rankOf (s .nodes) = well-formed-ranked s wf in
             let same : opened (s .nodes) k ≡ openingOf (opensTo s d) k (nodeOf (s .nodes) k) =
             opened-is (s .nodes) low k (ltb-true k (length (s .nodes)) e) in
             subst (λ (ts : List ℕ). TermMoves (call k) ts j m) (sym same)
-            (by-kind (nodeOf (s .nodes) k) refl (low .at k) ih (subst (λ (ts : List ℕ). List·Memᴰ j ts) same i))
+            (by-kind (nodeOf (s .nodes) k) refl (low .parts k) ih (subst (λ (ts : List ℕ). List·Memᴰ j ts) same i))
         within false e ih =
             absurd (none-opened k (length (s .nodes))
             (List·getD-eq-default (s .nodes) sheet.stop {n = k} (ltb-false k (length (s .nodes)) e)) i)
@@ -240,7 +240,7 @@ module _ (s : Sheet) (d : ℕ) where
     pub term-moves : {p : Term} {ts : List ℕ} → Opens (s .nodes) p ts → (j : ℕ) (m : Step) → List·Memᴰ j ts → List·Memᴰ m (steps s d j)
         → TermMoves p ts j m
     term-moves opens-nil j m i x = absurd (List·Memᴰ·not-nil i)
-    term-moves (opens-call k) j m i x = call-moves (suc k) k j m (omega arith) i x
+    term-moves (opens-call k) j m i x = call-moves (suc (rankOf k)) k j m (omega arith) i x
     term-moves (opens-parallel {p} {q} {ps} {qs} o u) j m i x = joined (λ y. term-moves o j m y x) (λ y. term-moves u j m y x)
       where
         joined : (List·Memᴰ j ps → TermMoves p ps j m) → (List·Memᴰ j qs → TermMoves q qs j m) → TermMoves (parallel p q) (ps ++ qs) j m

@@ -9,7 +9,8 @@ use lib.Pow.{shl-shr}
 use lib.Bits.{bitAnd, and-step, and-self}
 use lib.Count.{trailingZeros, under}
 use borrow.Author.Tests.{ltb-true, ltb-false}
-use Rattle.stores.specs.Sets.{digit, digit-zero, digit-half}
+use Rattle.stores.specs.FactSets.{digit}
+use Rattle.store_laws.specs.FactSetLaws.{digit-zero, digit-half}
 
 pub digit-le : (n i : ℕ) → digit n i ≤ 1
 unfolding digit

@@ -9,8 +9,8 @@ use lib.Dec.{eqb, ltb}
 use lib.ListN.{length, getD, set}
 use lib.Seq.{getD-set-same, getD-set-other}
 use borrow.Author.Tests.{eqb-true, eqb-false, ltb-true, ltb-false}
-use Rattle.stores.specs.Sets.{digit}
-use Rattle.stores.specs.Sets.{zero-digit}
+use Rattle.stores.specs.FactSets.{digit}
+use Rattle.store_laws.specs.FactSetLaws.{zero-digit}
 use Rattle.place_sets.specs.DigitLaws.{Lowest, lowest-later}
 use Rattle.place_sets.specs.PlaceSets.{InSet, Listed}
 

@@ -9,8 +9,8 @@ use lib.ListN.{length, getD, set}
 use lib.Seq.{set-out, getD-set-same, getD-set-other}
 use lib.Bits.{bitOr}
 use borrow.Author.Tests.{eqb-true, eqb-false, ltb-true, ltb-false}
-use Rattle.stores.specs.Sets.{digit}
-use Rattle.stores.specs.Sets.{digit-or}
+use Rattle.stores.specs.FactSets.{digit}
+use Rattle.store_laws.specs.FactSetLaws.{digit-or}
 use Rattle.place_sets.specs.DigitLaws.{digit-le, digit-power}
 use Rattle.place_sets.specs.PlaceSets.{InSet, withPlace, United}
 

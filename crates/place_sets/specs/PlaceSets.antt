@@ -4,7 +4,7 @@ use mathlib.Core.List.{List}
 use Prim.Native.Nat.{ℕ, _+_, _/_, _%_, _^_, _≤_, _<_}
 use lib.ListN.{length, getD, set}
 use lib.Bits.{bitOr}
-use Rattle.stores.specs.Sets.{digit}
+use Rattle.stores.specs.FactSets.{digit}
 
 abbrev pub placeDigit : List ℕ → ℕ → ℕ → ℕ
 placeDigit ws at i = digit (getD ws (at + i / 64) 0) (i % 64)

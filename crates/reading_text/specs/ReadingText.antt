@@ -4,17 +4,17 @@ use mathlib.Core.Path.{_≡_, ap, _∙_}
 use mathlib.Core.List.{List, [], _∷_}
 use Prim.Native.Nat.{ℕ}
 use lib.ListN.{length, getD}
-use Rattle.lists.specs.Tables.{tabulate-length}
-use Rattle.lines.specs.Lines.{line, readWord, refusedWord}
+use Rattle.list_laws.specs.Tabulate.{tabulate-length}
+use Rattle.printed_lines.specs.Lines.{line, readWord, refusedWord}
 use Rattle.sheets.specs.Sheet.{Sheet}
 use Rattle.sheets.specs.Reading.{Reading, got, refused}
-use Rattle.closing.specs.Layout.{ruleIn}
-use Rattle.held.specs.Held.{nodeIn, configuration, noConfiguration, sheetOf}
-use Rattle.held.specs.declared.Sheet as held
-use Rattle.held.specs.declared.SheetRead.{SheetRead}
-use Rattle.held.specs.declared.Section.the-variants.{Got, Refused}
-use Rattle.held.specs.AnswerLaws.{with-got, with-refused}
-use Rattle.sheet_reader.specs.Found.{SheetFound}
+use Rattle.set_closure.specs.RuleTable.{ruleIn}
+use Rattle.sheet_types.specs.HeldSheet.{nodeIn, configuration, noConfiguration, sheetOf}
+use Rattle.sheet_types.specs.declared.Sheet as held
+use Rattle.sheet_types.specs.declared.SheetRead.{SheetRead}
+use Rattle.sheet_types.specs.declared.Section.the-variants.{Got, Refused}
+use Rattle.sheet_types.specs.SectionLaws.{with-got, with-refused}
+use Rattle.sheet_reader.specs.SheetFound.{SheetFound}
 
 abbrev pub readingLine : Reading Sheet → List ℕ
 readingLine (got sheet end) = line readWord (sheet .facts ∷ length (sheet .rules) ∷ length (sheet .nodes) ∷ length (sheet .starts) ∷ [])

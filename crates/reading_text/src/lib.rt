@@ -1,5 +1,5 @@
 // The line that is printed of a sheet: its counts, or its refusal.
-use held::Section;
+use sheet_types::Section;
 ghost use mathlib.Core.List.{[], _∷_};
 ghost use Rattle.sheets.specs.Reading.{readChoice};
 ghost use Rattle.text.specs.Slices.{Written};

@@ -1,5 +1,2 @@
 pub mod Refinement
-pub mod Laws
-pub mod Levels
-pub mod Rounds
-pub mod Bisimilarity
+pub mod Sentences

@@ -1,1 +1,1 @@
-// Rounds with redundancy, levels and saturated barbed bisimulations over any labelled moves: definitions and theorems. No code.
+// The set, rounds with redundancy, levels and saturated barbed bisimulations over any labelled moves: definitions. No functions.

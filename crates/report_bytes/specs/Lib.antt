@@ -1,4 +1,4 @@
-pub mod HeldReport
-pub mod ReportHeld
-pub mod ReportHeldLaws
-pub mod Putting
+pub mod ReportLayout
+pub mod ReportInSlice
+pub mod ReportInSliceLaws
+pub mod BytesStored

@@ -5,19 +5,18 @@ use Prim.Native.Nat.{ℕ, _+_, _≤_, _<_}
 use native.Mathlib.Omega.{arith}
 use lib.ListN.{length, getD, take, drop, length-append, length-drop}
 use lib.Seq.{getD-drop, drop-drop, take-at, drop-append-seam}
-use Rattle.lists.specs.Tabulated.{part-tabulate}
-use Rattle.sheets.specs.Limits.{maxThreads}
+use Rattle.list_laws.specs.TabulateLaws.{part-tabulate}
+use Rattle.sheets.specs.SheetLimits.{maxThreads}
 use Rattle.sheets.specs.Reading.{word}
 use Rattle.sheets.specs.Sheet.{Configuration}
-use Rattle.comparison.specs.Limits.{noReply}
+use Rattle.comparison.specs.CallLimits.{noReply}
 use Rattle.comparison.specs.Classes.{placeOf, sameConfiguration}
-use Rattle.comparison.specs.ClassLaws.{position-le}
+use Rattle.comparison_laws.specs.ClassLaws.{position-le}
 use Rattle.comparison.specs.Trail.{Side, left, right, Reply, none, move, TrailStep}
 use Rattle.comparison.specs.Report.{wordBytes, memberBytes, stepBytes, sideByte, replyNumber}
 use Rattle.comparison.specs.Print.{memberLine, stepLine, sideLetter, replyText}
 use Rattle.report_text.specs.TextLaws.{reply-some}
-use Rattle.report_text.specs.AnswerText.{threadCount, threadsIn, memberIn, classIn, memberEnd, memberText}
-use Rattle.report_text.specs.AnswerText.{letterOf, replyOf, stepText, stepEnd}
+use Rattle.report_text.specs.AnswerText.{threadCount, threadsIn, memberIn, classIn, memberEnd, memberText, letterOf, replyOf, stepText, stepEnd}
 
 -- ---- a byte, a two-byte number and what follows
 byte-read : (s l : List ℕ) (at j : ℕ) → drop at s ≡ l → getD s (at + j) 0 ≡ getD l j 0

@@ -4,13 +4,13 @@ use mathlib.Core.List.{List, [], _∷_, _++_}
 use Prim.Native.Nat.{ℕ, _+_, min}
 use lib.ListN.{getD}
 use lib.Dec.{eqb}
-use Rattle.lists.specs.Tables.{tabulate}
-use Rattle.lines.specs.Decimal.{decimal}
-use Rattle.lines.specs.Lines.{space, lineFeed, field, line}
-use Rattle.sheets.specs.Limits.{maxThreads}
+use Rattle.list_laws.specs.Tabulate.{tabulate}
+use Rattle.printed_lines.specs.Decimal.{decimal}
+use Rattle.printed_lines.specs.Lines.{space, lineFeed, field, line}
+use Rattle.sheets.specs.SheetLimits.{maxThreads}
 use Rattle.sheets.specs.Reading.{word}
 use Rattle.sheets.specs.Sheet.{Configuration}
-use Rattle.comparison.specs.Limits.{noReply, limits}
+use Rattle.comparison.specs.CallLimits.{noReply, limits}
 use Rattle.comparison.specs.Report.{SAME, DIFF}
 use Rattle.comparison.specs.Print.{verdictWord, configurationsWord, trailWord, hyphen, memberLine}
 use Rattle.report_text.specs.Runs.{placeAfter, linesOf}

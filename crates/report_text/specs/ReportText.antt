@@ -4,11 +4,11 @@ use mathlib.Core.Bool.{Bool, true, false}
 use mathlib.Core.List.{List, [], _∷_, _++_}
 use Prim.Native.Nat.{ℕ, _+_, _*_, _≤_}
 use lib.ListN.{length, take, drop}
-use Rattle.lines.specs.Lines.{line}
+use Rattle.printed_lines.specs.Lines.{line}
 use Rattle.comparison.specs.Report.{Verdict, SAME, DIFF, Report, reportBytes, reportLength}
-use Rattle.comparison.specs.Call.{reported}
+use Rattle.comparison.specs.Frame.{reported}
 use Rattle.comparison.specs.Print.{printed}
-use Rattle.answers.specs.Fitting.{Fitting}
+use Rattle.answer_laws.specs.Fitting.{Fitting}
 use Rattle.text.specs.Slices.{Stored}
 use Rattle.report_text.specs.AnswerText.{membersText, membersEnd, answerText}
 use Rattle.report_text.specs.declared.Reached.{Reached}

@@ -6,22 +6,21 @@ use Prim.Native.Nat.{ℕ, _+_, _≤_, _<_}
 use native.Mathlib.Omega.{arith}
 use lib.ListN.{length, getD, take, drop, take-append-drop}
 use lib.Seq.{length-take-le, drop-drop, drop-append-seam}
-use Rattle.lists.specs.Members.{concatMap}
-use Rattle.lists.specs.Places.{getD-in}
-use Rattle.lines.specs.Lines.{line}
+use Rattle.lists.specs.Lists.{concatMap}
+use Rattle.list_laws.specs.ListPlaces.{getD-in}
+use Rattle.printed_lines.specs.Lines.{line}
 use Rattle.sheets.specs.Sheet.{Configuration}
 use Rattle.comparison.specs.Classes.{placeOf, classOf}
 use Rattle.comparison.specs.Trail.{TrailStep, left, none}
 use Rattle.comparison.specs.Report.{Verdict, SAME, DIFF, Report, wordBytes, memberBytes, stepBytes, reportBytes, reportLength}
-use Rattle.comparison.specs.Call.{reported}
+use Rattle.comparison.specs.Frame.{reported}
 use Rattle.comparison.specs.Print.{verdictWord, configurationsWord, trailWord, memberLine, memberLines, stepLine, printed}
-use Rattle.answers.specs.Fitting.{Fitting}
-use Rattle.answers.specs.MemberPlaces.{place-of-member}
+use Rattle.answer_laws.specs.Fitting.{Fitting}
+use Rattle.answer_laws.specs.MemberPlaces.{place-of-member}
 use Rattle.text.specs.Slices.{Stored}
-use Rattle.text.specs.LineLaws.{stored-length}
+use Rattle.text.specs.StoredText.{stored-length}
 use Rattle.report_text.specs.Runs.{run-whole}
-use Rattle.report_text.specs.AnswerText.{wordOf, countIn, memberText, memberEnd, membersText, membersEnd}
-use Rattle.report_text.specs.AnswerText.{stepText, stepEnd, stepsText, trailPlace, answerText}
+use Rattle.report_text.specs.AnswerText.{wordOf, countIn, memberText, memberEnd, membersText, membersEnd, stepText, stepEnd, stepsText, trailPlace, answerText}
 use Rattle.report_text.specs.TextLaws.{stored-front}
 use Rattle.report_text.specs.AnswerLaws.{word-read, word-rest, member-read, member-text, step-read}
 use Rattle.report_text.specs.ReportText.{isSame, ReportWritten}

@@ -6,8 +6,8 @@ use native.Mathlib.Numerals.{add-one}
 use native.Mathlib.Omega.{arith}
 use lib.ListN.{length, getD, take, drop, length-append, take-append-drop}
 use lib.Seq.{take-suc, take-all, drop-cons, drop-drop, drop-append-seam}
-use Rattle.lists.specs.Members.{concatMap}
-use Rattle.lists.specs.SortingLaws.{concatMap-next}
+use Rattle.lists.specs.Lists.{concatMap}
+use Rattle.list_laws.specs.SortingLaws.{concatMap-next}
 
 -- where the record after the first n begins; a record that begins at a place ends at `end` of it
 unfoldable pub placeAfter : (ℕ → ℕ) → ℕ → ℕ → ℕ

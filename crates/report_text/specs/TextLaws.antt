@@ -7,10 +7,10 @@ use native.Mathlib.Omega.{arith}
 use lib.ListN.{length, drop, getD}
 use lib.Seq.{sets-eq}
 use borrow.Author.Tests.{eq-eqb, ne-eqb}
-use Rattle.lists.specs.Tables.{tabulate, tabulate-none, tabulate-next, tabulate-same}
-use Rattle.lines.specs.Decimal.{decimal}
-use Rattle.lines.specs.DecimalLaws.{decimal-short}
-use Rattle.comparison.specs.Limits.{noReply}
+use Rattle.list_laws.specs.Tabulate.{tabulate, tabulate-none, tabulate-next, tabulate-same}
+use Rattle.printed_lines.specs.Decimal.{decimal}
+use Rattle.text.specs.DecimalLaws.{decimal-short}
+use Rattle.comparison.specs.CallLimits.{noReply}
 use Rattle.comparison.specs.Print.{plus, hyphen, moreThreads, threadsText}
 use Rattle.text.specs.Slices.{Stored}
 use Rattle.report_text.specs.AnswerText.{threadsIn, replyOf}

@@ -4,13 +4,12 @@ ghost use mathlib.Core.Path.{_≡_};
 ghost use mathlib.Core.List.{[], _∷_};
 ghost use Prim.Native.Nat.{_+_, _*_, _≤_, _<_, min};
 ghost use lib.ListN.{length, getD};
-ghost use Rattle.lines.specs.Decimal.{decimal};
-ghost use Rattle.lines.specs.Lines.{field, line};
+ghost use Rattle.printed_lines.specs.Decimal.{decimal};
+ghost use Rattle.printed_lines.specs.Lines.{field, line};
 ghost use Rattle.sheets.specs.Reading.{word};
 ghost use Rattle.comparison.specs.Print.{plus, moreThreads, threadsText};
 ghost use Rattle.text.specs.Slices.{Stored};
-ghost use Rattle.report_text.specs.AnswerText.{countIn, threadCount, threadsIn, memberText};
-ghost use Rattle.report_text.specs.AnswerText.{letterOf, replyOf, stepText, stepsText, wordOf};
+ghost use Rattle.report_text.specs.AnswerText.{countIn, threadCount, threadsIn, memberText, letterOf, replyOf, stepText, stepsText, wordOf};
 ghost use Rattle.report_text.specs.ReportText.{LineStored, MembersWritten, ReportWritten};
 
 const MAX_MEMBERS: usize = 512;

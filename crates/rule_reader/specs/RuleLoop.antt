@@ -4,12 +4,12 @@ use mathlib.Core.List.{List, []}
 use Prim.Native.Nat.{ℕ, _+_, _-_, _*_, _≤_, _<_}
 use native.Mathlib.Omega.{arith}
 use lib.ListN.{length}
-use Rattle.lists.specs.Tables.{tabulate-none}
+use Rattle.list_laws.specs.Tabulate.{tabulate-none}
 use Rattle.stores.specs.Stores.{Rule}
 use Rattle.sheets.specs.Reading.{Reading, got, ruleAt, recordsFrom}
-use Rattle.sheets.specs.RecordLaws.{records-next}
-use Rattle.closing.specs.Layout.{ruleIn, rulesIn}
-use Rattle.closing.specs.LayoutLaws.{putRule, rules-put}
+use Rattle.sheet_laws.specs.RecordLaws.{records-next}
+use Rattle.set_closure.specs.RuleTable.{ruleIn, rulesIn}
+use Rattle.set_closure.specs.RuleTableLaws.{putRule, rules-put}
 
 -- one rule, whatever stands before it
 abbrev pub ruleItem : ℕ → List ℕ → List Rule → ℕ → Reading Rule

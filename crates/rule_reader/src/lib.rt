@@ -1,13 +1,13 @@
 // The rules of a sheet.
-use held::RulesRead;
-use held::Section;
-use held::Sheet;
+use sheet_types::RulesRead;
+use sheet_types::Section;
+use sheet_types::Sheet;
 ghost use mathlib.Core.Path.{_≡_};
 ghost use mathlib.Core.List.{[]};
 ghost use Prim.Native.Nat.{_≤_};
 ghost use lib.ListN.{length};
-ghost use Rattle.held.specs.Held.{rulesRead};
-ghost use Rattle.sheets.specs.Limits.{maxFacts, maxRules};
+ghost use Rattle.sheet_types.specs.HeldSheet.{rulesRead};
+ghost use Rattle.sheets.specs.SheetLimits.{maxFacts, maxRules};
 ghost use Rattle.sheets.specs.Reading.{recordsFrom, ruleAt, rulesAt};
 
 // n rules.
@@ -19,11 +19,11 @@ fn rules_from(s: &[u8], facts: u16, n: u16, at: usize) -> RulesRead
     let mut p = at;
     let mut i: u16 = 0;
     while i < n {
-        let x = fields::premise_at(s, facts, p);
+        let x = sheet_fields::premise_at(s, facts, p);
         let Section::Got(premise, q) = x else {
             return RulesRead { answer: x, rules };
         };
-        let y = fields::set_at(s, facts, q);
+        let y = sheet_fields::set_at(s, facts, q);
         let Section::Got(conclusion, next) = y else {
             return RulesRead { answer: y, rules };
         };
@@ -44,7 +44,7 @@ pub fn rules_at(s: &[u8], facts: u16, at: usize) -> RulesRead
     requires { ⌜ (at ≤ length (now s)) × (facts ≤ maxFacts) ⌝ }
     ensures { λ r. ⌜ rulesRead r ≡ rulesAt facts (now (s .entry)) at ⌝ }
 {
-    let r = fields::count_at(s, at, 0, Sheet::MAX_RULES, 4);
+    let r = sheet_fields::count_at(s, at, 0, Sheet::MAX_RULES, refusals::MANY_RULES);
     let Section::Got(n, next) = r else {
         return RulesRead {
             answer: r,

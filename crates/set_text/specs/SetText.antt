@@ -2,7 +2,7 @@
 use mathlib.Core.List.{List, [], _∷_}
 use Prim.Native.Nat.{ℕ, zero, suc, _+_, _*_, _/_, _%_}
 use lib.ListN.{getD}
-use Rattle.work_places.specs.WorkPlaces.{spansAt, movesAt, membersAt}
+use Rattle.work_layout.specs.WorkLayout.{spansAt, movesAt, membersAt}
 
 -- a number mixed into a checksum
 abbrev pub mixedOf : ℕ → ℕ → ℕ
@@ -33,7 +33,3 @@ checksumOf w n = mixMembers w n (mixAll w membersAt (3 * n) 0)
 -- WHOLE
 abbrev pub wholeWord : List ℕ
 wholeWord = 87 ∷ 72 ∷ 79 ∷ 76 ∷ 69 ∷ []
-
--- LARGE
-abbrev pub largeWord : List ℕ
-largeWord = 76 ∷ 65 ∷ 82 ∷ 71 ∷ 69 ∷ []

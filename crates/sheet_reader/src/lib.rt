@@ -1,15 +1,15 @@
 // The whole sheet, and the choice of two starts. For every byte slice: the sheet, or the number and place of the one refusal.
-use held::Configuration;
-use held::Nodes;
-use held::NodesRead;
-use held::Opened;
-use held::RulesRead;
-use held::Section;
-use held::Sheet;
-use held::SheetRead;
+use sheet_types::Configuration;
+use sheet_types::Nodes;
+use sheet_types::NodesRead;
+use sheet_types::Opened;
+use sheet_types::RulesRead;
+use sheet_types::Section;
+use sheet_types::Sheet;
+use sheet_types::SheetRead;
 ghost use mathlib.Core.Path.{_≡_};
 ghost use Rattle.sheets.specs.Reading.{readSheet, readChoice};
-ghost use Rattle.sheet_reader.specs.Found.{SheetFound, unread};
+ghost use Rattle.sheet_reader.specs.SheetFound.{SheetFound, unread};
 
 // This answer with an empty sheet beside it.
 fn no_sheet(answer: Section) -> SheetRead
@@ -45,7 +45,7 @@ fn no_sheet(answer: Section) -> SheetRead
 pub fn read_sheet(s: &[u8]) -> SheetRead
     ensures { λ r. ⌜ SheetFound (readSheet (now (s .entry))) r ⌝ }
 {
-    let f = fields::facts_at(s, 0);
+    let f = sheet_fields::facts_at(s, 0);
     let Section::Got(facts, p) = f else {
         return no_sheet(f);
     };
@@ -69,7 +69,7 @@ pub fn read_sheet(s: &[u8]) -> SheetRead
         return no_sheet(k);
     };
     if end < s.len() {
-        return no_sheet(Section::Refused(13, end));
+        return no_sheet(Section::Refused(refusals::BYTES_LEFT, end));
     }
     let nodes = y.nodes;
     let starts = z.starts;
@@ -99,10 +99,10 @@ pub fn read_choice(s: &[u8], left: usize, right: usize) -> SheetRead
     };
     let starts = count as usize;
     if starts <= left {
-        return no_sheet(Section::Refused(14, 0));
+        return no_sheet(Section::Refused(refusals::ABSENT_START, 0));
     }
     if starts <= right {
-        return no_sheet(Section::Refused(14, 1));
+        return no_sheet(Section::Refused(refusals::ABSENT_START, 1));
     }
     r
 }

@@ -3,10 +3,10 @@ use mathlib.Core.Path.{_≡_}
 use mathlib.Core.List.{List}
 use Prim.Native.Nat.{ℕ, _≤_}
 use lib.ListN.{length, take}
-use Rattle.comparison.specs.Limits.{limits, workLength, reportRoom}
+use Rattle.comparison.specs.CallLimits.{limits, workLength, reportRoom}
 use Rattle.comparison.specs.Call.{compare}
 use Rattle.comparison.specs.Print.{printed}
-use Rattle.outcome_text.specs.OutcomeText.{textLength, textWritten}
+use Rattle.outcome_text.specs.TextRoom.{textLength, textWritten}
 
 abbrev pub sheetText : List ℕ → List ℕ
 sheetText bytes = printed (compare bytes 0 1 workLength (reportRoom limits))

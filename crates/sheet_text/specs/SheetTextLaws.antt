@@ -3,10 +3,10 @@ use mathlib.Core.Path.{_≡_, refl, sym, ap₂, subst}
 use mathlib.Core.List.{List}
 use Prim.Native.Nat.{ℕ}
 use lib.ListN.{length}
-use Rattle.comparison.specs.Limits.{limits, workLength, reportRoom}
-use Rattle.comparison.specs.Call.{Outcome, compare}
-use Rattle.comparing.specs.Compared.{Compared}
-use Rattle.reporting.specs.declared.Answer.{Answer}
+use Rattle.comparison.specs.CallLimits.{limits, workLength, reportRoom}
+use Rattle.comparison.specs.Call.{Compares, compare}
+use Rattle.compare_call.specs.Compared.{Compared}
+use Rattle.answers.specs.declared.Answer.{Answer}
 use Rattle.outcome_text.specs.OutcomeText.{OutcomeWritten}
 use Rattle.outcome_text.specs.OutcomeTextLaws.{call-answered}
 use Rattle.sheet_text.specs.SheetText.{SheetWritten}
@@ -19,7 +19,7 @@ sheet-written bytes {v} {before} {w} {answer} {r} {out} {after} {k} a b c o =
     let e : compare bytes 0 1 (length v) (length before) ≡ compare bytes 0 1 workLength (reportRoom limits) =
     ap₂ (compare bytes 0 1) (sym a) (sym b) in
     let x : Compared (compare bytes 0 1 workLength (reportRoom limits)) v before w answer r =
-    subst (λ (y : Outcome). Compared y v before w answer r) e c in
+    subst (λ (y : Compares). Compared y v before w answer r) e c in
     let y = call-answered bytes 0 1 workLength (reportRoom limits) before answer
     (compare bytes 0 1 workLength (reportRoom limits)) refl (x .bytes) in
     record {

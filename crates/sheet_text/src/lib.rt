@@ -24,6 +24,6 @@ pub fn sheet_text(sheet: &[u8], out: &mut [u8]) -> usize
 {
     let mut answer = answer_room();
     let mut work = work_room();
-    let r = comparing::compare(sheet, 0, 1, &mut answer, &mut work);
+    let r = compare_call::compare(sheet, 0, 1, &mut answer, &mut work);
     outcome_text::outcome_text(r, &answer, out)
 }

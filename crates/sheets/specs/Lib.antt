@@ -1,11 +1,5 @@
-pub mod Limits
+pub mod Refusals
+pub mod SheetLimits
 pub mod Sheet
 pub mod Reading
 pub mod WellFormed
-pub mod NodeFields
-pub mod RecordLaws
-pub mod OpeningLaws
-pub mod Gets
-pub mod FieldLaws
-pub mod SectionLaws
-pub mod ReadingLaws

@@ -6,7 +6,8 @@ use Prim.Native.Nat.{ℕ, zero, suc, _+_, _*_, _^_}
 use lib.ListN.{length, getD}
 use lib.Dec.{eqb, leb, ltb}
 use Rattle.stores.specs.Stores.{Rule, closure}
-use Rattle.sheets.specs.Limits.{maxFacts, maxRules, minNodes, maxNodes, minStarts, maxStarts, maxThreads, nameLength, firstPrintable, lastPrintable}
+use Rattle.sheets.specs.SheetLimits.{maxFacts, maxRules, minNodes, maxNodes, minStarts, maxStarts, maxThreads, nameLength, firstPrintable, lastPrintable}
+use Rattle.sheets.specs.Refusals.{cutOff, manyFacts, unprintable, manyRules, absentFact, emptyPremise, wrongNodes, wrongKind, wrongNode, usedField, wrongStarts, manyThreads, bytesLeft, wideNode, absentStart}
 use Rattle.sheets.specs.Sheet.{Node, stop, tell, ask, both, either, Configuration, Sheet, opened, openedAll}
 
 -- A value with the place after it, or a refusal with its number and place.
@@ -29,14 +30,14 @@ recordsFrom item (suc n) read at = andThen (item read at) (λ r next. recordsFro
 
 -- ---- fields of one and of two bytes. Refusal 1: a field cut off by the end, at the sheet's length.
 abbrev pub byteAt : List ℕ → ℕ → Reading ℕ
-byteAt s at = refusedIf (ltb (length s) (at + 1)) 1 (length s) (got (getD s at 0) (at + 1))
+byteAt s at = refusedIf (ltb (length s) (at + 1)) cutOff (length s) (got (getD s at 0) (at + 1))
 
 -- two bytes, the low one first
 abbrev pub word : List ℕ → ℕ → ℕ
 word s at = getD s at 0 + 256 * getD s (at + 1) 0
 
 abbrev pub wordAt : List ℕ → ℕ → Reading ℕ
-wordAt s at = refusedIf (ltb (length s) (at + 2)) 1 (length s) (got (word s at) (at + 2))
+wordAt s at = refusedIf (ltb (length s) (at + 2)) cutOff (length s) (got (word s at) (at + 2))
 
 -- a count byte from low to high, refused with its section's number
 unfoldable pub countAt : ℕ → ℕ → ℕ → List ℕ → ℕ → Reading ℕ
@@ -45,15 +46,15 @@ countAt low high number s at =
 
 -- a set of the sheet's facts; 5: it holds an absent fact
 unfoldable pub setAt : ℕ → List ℕ → ℕ → Reading ℕ
-setAt facts s at = andThen (wordAt s at) (λ c next. refusedIf (leb (2 ^ facts) c) 5 at (got c next))
+setAt facts s at = andThen (wordAt s at) (λ c next. refusedIf (leb (2 ^ facts) c) absentFact at (got c next))
 
 -- a node's number below a bound; 9: not allowed there
 abbrev pub below : ℕ → ℕ → ℕ → ℕ → Reading ℕ
-below bound k at next = refusedIf (leb bound k) 9 at (got k next)
+below bound k at next = refusedIf (leb bound k) wrongNode at (got k next)
 
 -- a field that is not used; 10: it is not 0
 abbrev pub unused : ℕ → ℕ → ℕ → Reading ℕ
-unused x at next = refusedIf (not (eqb x 0)) 10 at (got x next)
+unused x at next = refusedIf (not (eqb x 0)) usedField at (got x next)
 
 -- ---- facts. A name is one field; 3: a byte outside 32 to 126, at the first such byte.
 abbrev pub printable : ℕ → Bool
@@ -61,10 +62,10 @@ printable b = leb firstPrintable b && leb b lastPrintable
 
 unfoldable pub nameBytes : ℕ → List ℕ → ℕ → Reading ℕ
 nameBytes zero s at = got nameLength at
-nameBytes (suc n) s at = let rest = nameBytes n s (at + 1) in refusedIf (not (printable (getD s at 0))) 3 at rest
+nameBytes (suc n) s at = let rest = nameBytes n s (at + 1) in refusedIf (not (printable (getD s at 0))) unprintable at rest
 
 unfoldable pub nameAt : List ℕ → ℕ → Reading ℕ
-nameAt s at = refusedIf (ltb (length s) (at + nameLength)) 1 (length s) (nameBytes nameLength s at)
+nameAt s at = refusedIf (ltb (length s) (at + nameLength)) cutOff (length s) (nameBytes nameLength s at)
 
 -- n names, of a section with k in all
 unfoldable pub namesFrom : ℕ → ℕ → List ℕ → ℕ → Reading ℕ
@@ -73,11 +74,11 @@ namesFrom (suc n) k s at = andThen (nameAt s at) (λ name next. namesFrom n k s 
 
 -- the number of facts; 2: more than 12
 unfoldable pub factsAt : List ℕ → ℕ → Reading ℕ
-factsAt s at = andThen (countAt 0 maxFacts 2 s at) (λ n next. namesFrom n n s next)
+factsAt s at = andThen (countAt 0 maxFacts manyFacts s at) (λ n next. namesFrom n n s next)
 
 -- ---- rules. 6: an empty premise, after 5 in the same field.
 unfoldable pub premiseAt : ℕ → List ℕ → ℕ → Reading ℕ
-premiseAt facts s at = andThen (setAt facts s at) (λ c next. refusedIf (eqb c 0) 6 at (got c next))
+premiseAt facts s at = andThen (setAt facts s at) (λ c next. refusedIf (eqb c 0) emptyPremise at (got c next))
 
 unfoldable pub ruleAt : ℕ → List ℕ → ℕ → Reading Rule
 ruleAt facts s at =
@@ -85,14 +86,14 @@ ruleAt facts s at =
 
 -- the rules; 4: more than 32
 unfoldable pub rulesAt : ℕ → List ℕ → ℕ → Reading (List Rule)
-rulesAt facts s at = andThen (countAt 0 maxRules 4 s at) (λ n next. recordsFrom (λ read p. ruleAt facts s p) n [] next)
+rulesAt facts s at = andThen (countAt 0 maxRules manyRules s at) (λ n next. recordsFrom (λ read p. ruleAt facts s p) n [] next)
 
 -- ---- nodes. 8: a kind above 4.
 abbrev pub maxKind : ℕ
 maxKind = 4
 
 unfoldable pub kindAt : List ℕ → ℕ → Reading ℕ
-kindAt s at = andThen (byteAt s at) (λ k next. refusedIf (ltb maxKind k) 8 at (got k next))
+kindAt s at = andThen (byteAt s at) (λ k next. refusedIf (ltb maxKind k) wrongKind at (got k next))
 
 -- The first field of the node with this number: unused in a stop, a set in a tell and an ask, a lower node in a both and an
 -- either.
@@ -123,12 +124,12 @@ nodeAt facts rules nodes s read at =
     andThen (firstAt kind facts (length read) s p) (λ first q.
     andThen (secondAt kind nodes (length read) s q) (λ second next.
     let n = nodeFrom rules kind first second in
-    refusedIf (ltb maxThreads (length (opened (read ++ (n ∷ [])) (length read)))) 15 at (got n next))))
+    refusedIf (ltb maxThreads (length (opened (read ++ (n ∷ [])) (length read)))) wideNode at (got n next))))
 
 -- the nodes; 7: none, or more than 64
 unfoldable pub nodesAt : ℕ → List Rule → List ℕ → ℕ → Reading (List Node)
 nodesAt facts rules s at =
-    andThen (countAt minNodes maxNodes 7 s at) (λ n next. recordsFrom (nodeAt facts rules n s) n [] next)
+    andThen (countAt minNodes maxNodes wrongNodes s at) (λ n next. recordsFrom (nodeAt facts rules n s) n [] next)
 
 -- ---- starts. A thread's byte names any node of the sheet; 9 otherwise.
 unfoldable pub threadAt : ℕ → List ℕ → ℕ → Reading ℕ
@@ -142,15 +143,15 @@ threadsFrom n nodes s at = recordsFrom (λ read p. threadAt nodes s p) n [] at
 unfoldable pub startAt : ℕ → List Rule → List Node → List ℕ → ℕ → Reading Configuration
 startAt facts rules nodes s at =
     andThen (setAt facts s at) (λ c p.
-    andThen (countAt 0 maxThreads 12 s p) (λ n q.
+    andThen (countAt 0 maxThreads manyThreads s p) (λ n q.
     andThen (threadsFrom n (length nodes) s q) (λ ks next.
     let ts = openedAll nodes ks in
-    refusedIf (ltb maxThreads (length ts)) 12 p (got (record { store = closure rules c; threads = ts }) next))))
+    refusedIf (ltb maxThreads (length ts)) manyThreads p (got (record { store = closure rules c; threads = ts }) next))))
 
 -- the starts; 11: below 2 or above 16
 unfoldable pub startsAt : ℕ → List Rule → List Node → List ℕ → ℕ → Reading (List Configuration)
 startsAt facts rules nodes s at =
-    andThen (countAt minStarts maxStarts 11 s at) (λ n next. recordsFrom (λ read p. startAt facts rules nodes s p) n [] next)
+    andThen (countAt minStarts maxStarts wrongStarts s at) (λ n next. recordsFrom (λ read p. startAt facts rules nodes s p) n [] next)
 
 -- ---- the whole sheet; 13: bytes after the last start, at the first of them
 unfoldable pub readSheet : List ℕ → Reading Sheet
@@ -159,12 +160,12 @@ readSheet s =
     andThen (rulesAt facts s p) (λ rules q.
     andThen (nodesAt facts rules s q) (λ nodes t.
     andThen (startsAt facts rules nodes s t) (λ starts end.
-    refusedIf (ltb end (length s)) 13 end (got (record { facts = facts; rules = rules; nodes = nodes; starts = starts }) end)))))
+    refusedIf (ltb end (length s)) bytesLeft end (got (record { facts = facts; rules = rules; nodes = nodes; starts = starts }) end)))))
 
 -- The choice of a left and a right start, after the sheet. 14: not on the sheet, place 0 for the left and 1 for the right,
 -- the left first.
 unfoldable pub readChoice : List ℕ → ℕ → ℕ → Reading Sheet
 readChoice s left right =
     andThen (readSheet s) (λ sheet end.
-    refusedIf (leb (length (sheet .starts)) left) 14 0
-    (refusedIf (leb (length (sheet .starts)) right) 14 1 (got sheet end)))
+    refusedIf (leb (length (sheet .starts)) left) absentStart 0
+    (refusedIf (leb (length (sheet .starts)) right) absentStart 1 (got sheet end)))

@@ -4,8 +4,7 @@ use mathlib.Core.List.{List, [], _∷_, _++_}
 use Prim.Native.Nat.{ℕ, zero, suc}
 use lib.ListN.{length, getD}
 use Rattle.stores.specs.Stores.{Rule}
-use Rattle.lists.specs.Ascending.{sortUp}
-use Rattle.lists.specs.Members.{concatMap}
+use Rattle.lists.specs.Lists.{sortUp, concatMap}
 
 -- A node: the paper's processes without hiding and calls. A set is a constraint, a number is a node's.
 pub data Node : Type 0 where

@@ -1,4 +1,4 @@
-pub mod Opening
-pub mod Threads
-pub mod Starting
-pub mod Starts
+pub mod OpenedThreads
+pub mod ThreadsFound
+pub mod StartFound
+pub mod StartsFound

@@ -1,3 +1,2 @@
-pub mod Sets
+pub mod FactSets
 pub mod Stores
-pub mod StoreLaws

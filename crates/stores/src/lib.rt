@@ -1,1 +1,1 @@
-// Facts, sets, rules, closure, constraints and stores (document 01, "Facts and stores"): definitions and laws. No code.
+// Facts, sets, rules, closure, constraints and stores (document 01, "Facts and stores"): definitions. No functions.

@@ -1,3 +1,4 @@
+pub mod DecimalLaws
 pub mod Powers
 pub mod Slices
-pub mod LineLaws
+pub mod StoredText

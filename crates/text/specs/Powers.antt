@@ -5,8 +5,8 @@ use Prim.Native.Nat.{ℕ, zero, suc, _+_, _*_, _/_, _%_, _^_, _≤_, _<_, max}
 use native.Mathlib.Nat.{pow-suc, pow-zero, div-div-eq-div-mul, le-div-iff-mul-le, div-le-self}
 use native.Mathlib.Omega.{arith}
 use lib.ListN.{length, length-append}
-use Rattle.lines.specs.Decimal.{digitByte, decimal}
-use Rattle.lines.specs.DecimalLaws.{decimal-more, decimal-short}
+use Rattle.printed_lines.specs.Decimal.{digitByte, decimal}
+use Rattle.text.specs.DecimalLaws.{decimal-more, decimal-short}
 
 pub record PowerOfTen (q : ℕ) : Type 0 where
   pub exponent : ℕ

@@ -3,9 +3,9 @@ ghost use mathlib.Core.Path.{_≡_};
 ghost use mathlib.Core.List.{List, [], _∷_};
 ghost use Prim.Native.Nat.{_+_, _%_, _≤_, _<_};
 ghost use lib.ListN.{length};
-ghost use Rattle.lines.specs.Decimal.{digitByte, decimal};
+ghost use Rattle.printed_lines.specs.Decimal.{digitByte, decimal};
 ghost use Rattle.text.specs.Powers.{FirstPlace};
-ghost use Rattle.lines.specs.Lines.{field, lineFeed, line, refusedWord, readWord};
+ghost use Rattle.printed_lines.specs.Lines.{field, lineFeed, line, refusedWord, readWord};
 ghost use Rattle.text.specs.Slices.{Stored, Written};
 
 // The character of a number's last digit.

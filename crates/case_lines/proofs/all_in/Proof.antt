@@ -6,7 +6,7 @@ use native.Mathlib.Omega.{arith}
 use lib.ListN.{length, drop, getD}
 use borrow.Author.Tests.{not-true, not-false}
 use borrow.Author.Needs.{needs}
-use Rattle.lists.specs.Members.{all}
+use Rattle.lists.specs.Lists.{all}
 use Rattle.case_lines.specs.Lines.{inClass}
 use Rattle.case_lines.specs.LineLaws.{all-here, all-past}
 use Rattle.case_lines.proofs.all_in.Statement.{statement}

@@ -5,7 +5,7 @@ use Prim.Native.Nat.{_+_, _-_, _*_, _≤_}
 use native.Mathlib.Omega.{arith}
 use lib.ListN.{length-set, length, drop}
 use borrow.Author.Needs.{needs}
-use Rattle.lists.specs.Tables.{tabulate-none, tabulate}
+use Rattle.list_laws.specs.Tabulate.{tabulate-none, tabulate}
 use Rattle.case_lines.specs.Lines.{inClass, byteOf}
 use Rattle.case_lines.specs.declared.Class.the-variants.{Hex}
 use Rattle.case_lines.specs.LineLaws.{all-at, stored-next}

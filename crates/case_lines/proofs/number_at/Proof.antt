@@ -4,7 +4,7 @@ use Prim.Native.Nat.{_-_}
 use native.Mathlib.Omega.{arith}
 use lib.ListN.{drop}
 use borrow.Author.Needs.{needs}
-use Rattle.lines.specs.Lines.{space}
+use Rattle.printed_lines.specs.Lines.{space}
 use Rattle.case_lines.specs.Lines.{before}
 use Rattle.case_lines.specs.LineLaws.{end-within}
 use Rattle.case_lines.proofs.number_at.Statement.{statement}

@@ -5,7 +5,7 @@ use native.Mathlib.Omega.{arith}
 use lib.ListN.{getD, length, take}
 use lib.Seq.{take-all}
 use borrow.Author.Needs.{needs}
-use Rattle.lines.specs.Decimal.{value}
+use Rattle.printed_lines.specs.Decimal.{value}
 use Rattle.case_lines.specs.Lines.{inClass}
 use Rattle.case_lines.specs.declared.Class.the-variants.{Digit}
 use Rattle.case_lines.specs.LineLaws.{Within, digits-more, digits-fit, value-none, value-next, all-at, between-within}

@@ -1,6 +1,6 @@
 -- The call's own answer, as numbers.
 use borrow.Author.Needs.{needs}
-use Rattle.hofadiju.specs.NumberLaws.{call-handed}
+use Rattle.answer_numbers.specs.AnswerNumberLaws.{call-handed}
 use Rattle.hofadiju.proofs.hofadiju_compare.Statement.{statement}
 use Rattle.hofadiju.proofs.hofadiju_compare.Tie as tie
 

@@ -1,4 +1,4 @@
--- The levels are counted.
+-- A level is made in each turn, of 4,096 at most.
 use mathlib.Core.Path.{_≡_}
 use Prim.Native.Nat.{_-_, _≤_}
 use lib.ListN.{length}
@@ -7,13 +7,10 @@ use Rattle.level_check.proofs.refine.Statement.{statement}
 use Rattle.level_check.proofs.refine.Tie as tie
 
 abbrev Inv-loop : tie.InvT-loop
-Inv-loop sheet universe reductions numbers₀ table₀ listed₀ m left right n apart₀ round₀ level₀ numbers table listed apart round level = (level ≤ 4096) × (length numbers ≡ length numbers₀) × (length table ≡ length table₀) × (length listed ≡ length listed₀)
+Inv-loop w₀ n m left right apart₀ round₀ level₀ w apart round level = (level ≤ 4096) × (length w ≡ length w₀)
 
 abbrev μ-loop : tie.MeasureT-loop
-μ-loop sheet universe reductions numbers₀ table₀ listed₀ m left right n apart₀ round₀ level₀ numbers table listed apart round level = 4096 - level
-
-count-requires : tie.Need-count-requires Inv-loop μ-loop
-count-requires c κs = search needs
+μ-loop w₀ n m left right apart₀ round₀ level₀ w apart round level = 4096 - level
 
 differ-requires : tie.Need-differ-requires Inv-loop μ-loop
 differ-requires c κs = search needs
@@ -39,23 +36,11 @@ no-levels-requires c κs = search needs
 same-length : tie.Need-same-length Inv-loop μ-loop
 same-length c = search needs
 
-same-length-2 : tie.Need-same-length-2 Inv-loop μ-loop
-same-length-2 c = search needs
-
-same-length-3 : tie.Need-same-length-3 Inv-loop μ-loop
-same-length-3 c = search needs
-
 returns : tie.Need-returns Inv-loop μ-loop
 returns c = search needs
 
-same-length-4 : tie.Need-same-length-4 Inv-loop μ-loop
-same-length-4 c = search needs
-
-same-length-5 : tie.Need-same-length-5 Inv-loop μ-loop
-same-length-5 c = search needs
-
-same-length-6 : tie.Need-same-length-6 Inv-loop μ-loop
-same-length-6 c = search needs
+same-length-2 : tie.Need-same-length-2 Inv-loop μ-loop
+same-length-2 c = search needs
 
 returns-2 : tie.Need-returns-2 Inv-loop μ-loop
 returns-2 c = search needs
@@ -78,14 +63,8 @@ loop-again c = search needs
 no-levels-requires-2 : tie.Need-no-levels-requires-2 Inv-loop μ-loop
 no-levels-requires-2 c κs = search needs
 
-same-length-7 : tie.Need-same-length-7 Inv-loop μ-loop
-same-length-7 c = search needs
-
-same-length-8 : tie.Need-same-length-8 Inv-loop μ-loop
-same-length-8 c = search needs
-
-same-length-9 : tie.Need-same-length-9 Inv-loop μ-loop
-same-length-9 c = search needs
+same-length-3 : tie.Need-same-length-3 Inv-loop μ-loop
+same-length-3 c = search needs
 
 returns-3 : tie.Need-returns-3 Inv-loop μ-loop
 returns-3 c = search needs
@@ -96,7 +75,6 @@ refine-spec =
     (tie.spec
     Inv-loop
     μ-loop
-    count-requires
     differ-requires
     first-at-requires
     loop-holds
@@ -105,12 +83,8 @@ refine-spec =
     first-at-requires-2
     no-levels-requires
     same-length
-    same-length-2
-    same-length-3
     returns
-    same-length-4
-    same-length-5
-    same-length-6
+    same-length-2
     returns-2
     add-level
     differ-requires-2
@@ -118,7 +92,5 @@ refine-spec =
     loop-less
     loop-again
     no-levels-requires-2
-    same-length-7
-    same-length-8
-    same-length-9
+    same-length-3
     returns-3)

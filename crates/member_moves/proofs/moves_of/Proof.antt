@@ -2,16 +2,17 @@
 use native.Mathlib.Omega.{arith}
 use Prim.Native.Nat.{_-_, _≤_}
 use borrow.Author.Needs.{needs}
-use Rattle.held.specs.Held.{configuration}
-use Rattle.movability.specs.Movability.{nodesHeld}
-use Rattle.leaf_visits.specs.LeafLaws.{eight-places, counted}
-use Rattle.member_moves.specs.FoundLaws.{SoFar, so-far-none, so-far-next, so-far-over, so-far-all, next-on, next-over}
+use Rattle.sheet_types.specs.HeldSheet.{configuration}
+use Rattle.sheet_laws.specs.Ranks.{rankOf}
+use Rattle.movable_nodes.specs.Movability.{nodesHeld}
+use Rattle.tell_ask_visits.specs.TellAskLaws.{eight-places, counted}
+use Rattle.member_moves.specs.MovesFoundLaws.{SoFar, so-far-none, so-far-next, so-far-over, so-far-all, next-on, next-over}
 use Rattle.member_moves.proofs.moves_of.Statement.{statement}
 use Rattle.member_moves.proofs.moves_of.Tie as tie
 
 abbrev Inv-loop : tie.InvT-loop
 Inv-loop w₀ kinds firsts seconds counts threads movables b e cur₀ i₀ n w cur i =
-    (i ≤ n) × SoFar (nodesHeld kinds firsts seconds (b .nodes)) b w₀ cur₀ (configuration e) i w cur
+    (i ≤ n) × SoFar rankOf (nodesHeld kinds firsts seconds (b .nodes)) b w₀ cur₀ (configuration e) i w cur
 
 abbrev μ-loop : tie.MeasureT-loop
 μ-loop w₀ kinds firsts seconds counts threads movables b e cur₀ i₀ n w cur i = n - i
@@ -27,9 +28,11 @@ loop-holds c =
 
 thread-moves-requires : tie.Need-thread-moves-requires Inv-loop μ-loop
 thread-moves-requires c κs =
-    let h = c .before .before .before .before .before .pre in
-    let m = c .before .before .loop in
-    (h .0, m .inv .1 .walking, m .inv .1 .none-left, h .4, h .5, h .6, omega (arith, c .before .loop-test .taken))
+    let test = c .before in
+    let loop = test .before in
+    let h = loop .before .before .before .pre in
+    let m = loop .loop in
+    (h .0, m .inv .1 .walking, m .inv .1 .none-left, h .4, h .5, h .6, omega (arith, test .loop-test .taken))
 
 enum-known-r : tie.Need-enum-known-r Inv-loop μ-loop
 enum-known-r c = search needs
@@ -42,9 +45,10 @@ same-length c = search needs
 
 returns : tie.Need-returns Inv-loop μ-loop
 returns c =
-    let h = c .before .before .before .before .before .before .before .before .before .before .pre in
-    let m = c .before .before .before .before .before .before .before .loop in
-    so-far-over (h .1) (m .inv .1) (next-over (c .enum-told .given .1) (c .before .before .before .before .thread-moves .ensures))
+    let moved = c .before .before .before .before in
+    let loop = moved .before .before .before in
+    let h = loop .before .before .before .pre in
+    so-far-over (h .1) (loop .loop .inv .1) (next-over (c .enum-told .given .1) (moved .thread-moves .ensures))
 
 add-i : tie.Need-add-i Inv-loop μ-loop
 add-i c = search needs
@@ -54,11 +58,13 @@ loop-less c = search needs
 
 loop-again : tie.Need-loop-again Inv-loop μ-loop
 loop-again c =
-    let h = c .before .before .before .before .before .before .before .before .before .before .before .pre in
-    let m = c .before .before .before .before .before .before .before .before .loop in (
-      omega (arith, c .before .before .before .before .before .before .before .loop-test .taken),
-      so-far-next (h .1) (m .inv .1)
-          (next-on (c .before .r .given .1) (c .before .before .before .before .before .thread-moves .ensures)),
+    let on = c .before in
+    let moved = on .before .before .before .before in
+    let test = moved .before .before in
+    let loop = test .before in
+    let h = loop .before .before .before .pre in (
+      omega (arith, test .loop-test .taken),
+      so-far-next (h .1) (loop .loop .inv .1) (next-on (on .r .given .1) (moved .thread-moves .ensures)),
     )
 
 same-length-2 : tie.Need-same-length-2 Inv-loop μ-loop
@@ -70,7 +76,7 @@ returns-2 c =
     let a = o .args in
     let h = o .pre in
     let m = c .before .loop in
-    let long = counted (a .e)
+    let long = counted (a .e .threads) (a .e .count)
     (eight-places (a .e .threads) (o .good .1 .1 .1 .1 .1 .1 .1 .1 .0 .1 .1 .1 .1 .0 .1 .0 .1)) (h .5) in
     so-far-all (h .1) (m .inv .1) (h .6) (omega (arith, long, c .loop-test .left))
 

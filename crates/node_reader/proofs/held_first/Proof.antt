@@ -2,8 +2,8 @@
 use mathlib.Core.Path.{sym, _∙_}
 use native.Mathlib.Omega.{arith}
 use borrow.Author.Needs.{needs}
-use Rattle.closing.specs.Layout.{rulesIn}
-use Rattle.node_reader.specs.HeldFirst.{closed-set, closed-other}
+use Rattle.set_closure.specs.RuleTable.{rulesIn}
+use Rattle.node_reader.specs.FirstFields.{closed-set, closed-other}
 use Rattle.node_reader.proofs.held_first.Statement.{statement}
 use Rattle.node_reader.proofs.held_first.Tie as tie
 

@@ -1,11 +1,11 @@
 -- `node_at` reads the fields in the definition's order, and hands a refusal up.
 use mathlib.Core.Path.{refl, sym, _∙_}
 use borrow.Author.Needs.{needs}
-use Rattle.closing.specs.Layout.{rulesIn}
-use Rattle.held.specs.AnswerLaws.{answer-got, got-then, refused-then}
-use Rattle.sheets.specs.FieldLaws.{kind-gets, first-gets}
-use Rattle.sheets.specs.NodeFields.{nodeFieldsAt}
-use Rattle.node_reader.specs.Found.{node-refused, node-got}
+use Rattle.set_closure.specs.RuleTable.{rulesIn}
+use Rattle.sheet_types.specs.SectionLaws.{answer-got, got-then, refused-then}
+use Rattle.sheet_laws.specs.FieldLaws.{kind-gets, first-gets}
+use Rattle.sheet_laws.specs.NodeFields.{nodeFieldsAt}
+use Rattle.node_reader.specs.NodesFound.{node-refused, node-got}
 use Rattle.node_reader.proofs.node_at.Statement.{statement}
 use Rattle.node_reader.proofs.node_at.Tie as tie
 

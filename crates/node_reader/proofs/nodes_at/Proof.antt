@@ -2,12 +2,12 @@
 use mathlib.Core.Path.{sym, _∙_}
 use native.Mathlib.Omega.{arith}
 use borrow.Author.Needs.{needs}
-use Rattle.closing.specs.Layout.{rulesIn}
-use Rattle.sheets.specs.Limits.{minNodes, maxNodes}
+use Rattle.set_closure.specs.RuleTable.{rulesIn}
+use Rattle.sheets.specs.SheetLimits.{minNodes, maxNodes}
 use Rattle.sheets.specs.Reading.{nodesAt}
-use Rattle.held.specs.AnswerLaws.{answer-got, got-then, refused-then}
-use Rattle.sheets.specs.FieldLaws.{count-gets}
-use Rattle.node_reader.specs.SoFar.{nodes-refused}
+use Rattle.sheet_types.specs.SectionLaws.{answer-got, got-then, refused-then}
+use Rattle.sheet_laws.specs.FieldLaws.{count-gets}
+use Rattle.node_reader.specs.NodesSoFar.{nodes-refused}
 use Rattle.node_reader.proofs.nodes_at.Statement.{statement}
 use Rattle.node_reader.proofs.nodes_at.Tie as tie
 

@@ -4,13 +4,13 @@ use mathlib.Core.Path.{refl, subst, _∙_}
 use native.Mathlib.Omega.{arith}
 use borrow.Author.Needs.{needs}
 use lib.ListN.{length}
-use Rattle.lists.specs.Tables.{tabulate-length}
-use Rattle.closing.specs.Layout.{rulesIn}
-use Rattle.held.specs.Held.{nodeIn}
-use Rattle.opening.specs.Table.{tableIn, openedNode, Few}
-use Rattle.node_reader.specs.Found.{nodesOf}
-use Rattle.node_reader.specs.NextLaws.{next-refused, next-fits, next-many, next-few}
-use Rattle.node_reader.specs.SoFar.{SoFar, so-far-none, so-far-next, so-far-refused, so-far-end}
+use Rattle.list_laws.specs.Tabulate.{tabulate-length}
+use Rattle.set_closure.specs.RuleTable.{rulesIn}
+use Rattle.sheet_types.specs.HeldSheet.{nodeIn}
+use Rattle.node_opening.specs.OpenedNodes.{tableIn, openedNode, Few}
+use Rattle.node_reader.specs.NodesFound.{nodesOf}
+use Rattle.node_reader.specs.NextNodeLaws.{next-refused, next-fits, next-many, next-few}
+use Rattle.node_reader.specs.NodesSoFar.{SoFar, so-far-none, so-far-next, so-far-refused, so-far-end}
 use Rattle.node_reader.proofs.nodes_from.Statement.{statement}
 use Rattle.node_reader.proofs.nodes_from.Tie as tie
 

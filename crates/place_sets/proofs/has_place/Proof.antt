@@ -5,7 +5,7 @@ use native.Mathlib.Omega.{arith}
 use lib.ListN.{getD}
 use lib.Dec.{eqb}
 use borrow.Author.Needs.{needs}
-use Rattle.stores.specs.Sets.{digit}
+use Rattle.stores.specs.FactSets.{digit}
 use Rattle.place_sets.proofs.has_place.Statement.{statement}
 use Rattle.place_sets.proofs.has_place.Tie as tie
 

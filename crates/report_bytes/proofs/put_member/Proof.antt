@@ -4,8 +4,8 @@ use native.Mathlib.Omega.{arith}
 use lib.ListN.{length-set}
 use borrow.Author.Needs.{needs}
 use Rattle.packing.specs.PackingLaws.{packed-count}
-use Rattle.text.specs.LineLaws.{stored-length}
-use Rattle.report_bytes.specs.Putting.{threads-count, member-length, stored-member}
+use Rattle.text.specs.StoredText.{stored-length}
+use Rattle.report_bytes.specs.BytesStored.{threads-count, member-length, stored-member}
 use Rattle.report_bytes.proofs.put_member.Statement.{statement}
 use Rattle.report_bytes.proofs.put_member.Tie as tie
 
@@ -54,7 +54,7 @@ shared-slice-read-c c = search needs
 put-word-requires : tie.Need-put-word-requires
 put-word-requires c κs =
     let start = c .before .before .before .before .before .before in
-    omega (arith, member-length (start .args .w .now) (start .args .i) (start .pre .2))
+    omega (arith, member-length (start .args .work .now) (start .args .i) (start .pre .2))
 
 cast-out : tie.Need-cast-out
 cast-out c = search needs
@@ -63,7 +63,7 @@ slice-write-out : tie.Need-slice-write-out
 slice-write-out c =
     let start = c .before .before .before .before .before .before .before .before .before in
     let first = c .before .before .put-word .ensures in
-    let long = member-length (start .args .w .now) (start .args .i) (start .pre .2) in
+    let long = member-length (start .args .work .now) (start .args .i) (start .pre .2) in
     omega (arith, first .place, stored-length first)
 
 add-put-threads : tie.Need-add-put-threads
@@ -76,7 +76,7 @@ put-threads-requires : tie.Need-put-threads-requires
 put-threads-requires c κs =
     let start = c .before .before .before .before .before .before .before .before .before .before in
     let first = c .before .before .before .put-word .ensures in
-    let long = member-length (start .args .w .now) (start .args .i) (start .pre .2) in
+    let long = member-length (start .args .work .now) (start .args .i) (start .pre .2) in
     (packed-count (start .pre .2), simp length-set (omega (arith, first .place, stored-length first)))
 
 add-put-word : tie.Need-add-put-word
@@ -92,9 +92,9 @@ put-word-requires-2 : tie.Need-put-word-requires-2
 put-word-requires-2 c κs =
     let start = c .before .before .before .before .before .before .before .before .before .before .before .before .before .before .before in
     let first = c .before .before .before .before .before .before .before .before .put-word .ensures in
-    let long = member-length (start .args .w .now) (start .args .i) (start .pre .2) in
+    let long = member-length (start .args .work .now) (start .args .i) (start .pre .2) in
     let second = c .before .before .before .before .put-threads .ensures in
-    let some = threads-count (start .args .w .now) (start .args .i) (start .pre .2) in
+    let some = threads-count (start .args .work .now) (start .args .i) (start .pre .2) in
     omega (arith, first .place, stored-length first, second .place, simp length-set at (stored-length second))
 
 same-length : tie.Need-same-length
@@ -112,7 +112,7 @@ returns c =
     let second = third .before .before .before .before .before in
     let first = second .before .before .before .before in
     let start = first .before .before .before .before .before .before .before in
-    stored-member (start .args .w .now) (start .args .i) (start .pre .2) (first .put-word .ensures) (second .put-threads .ensures)
+    stored-member (start .args .work .now) (start .args .i) (start .pre .2) (first .put-word .ensures) (second .put-threads .ensures)
     (third .put-word2 .ensures)
 
 pub put-member-spec : {M : Type 1} → statement M

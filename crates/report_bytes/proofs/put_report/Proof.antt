@@ -4,21 +4,21 @@ use Prim.Native.Nat.{ℕ}
 use native.Mathlib.Omega.{arith}
 use lib.ListN.{length-append}
 use borrow.Author.Needs.{needs}
-use Rattle.report_bytes.specs.Putting.{lent-room, lent-after}
-use Rattle.report_bytes.specs.HeldReport.{membersPart, trailPart}
+use Rattle.report_bytes.specs.BytesStored.{lent-room, lent-after}
+use Rattle.report_bytes.specs.ReportLayout.{membersPart, trailPart}
 use Rattle.report_bytes.proofs.put_report.Statement.{statement}
 use Rattle.report_bytes.proofs.put_report.Tie as tie
 
 put-members-requires : tie.Need-put-members-requires
 put-members-requires c κs =
     let start = c .before .before .before in
-    let w : List ℕ = start .args .w .now in
+    let w : List ℕ = start .args .work .now in
     (start .pre .0 .members, omega (arith, start .pre .1, length-append (membersPart w (start .args .n)) (trailPart w (start .args .k))))
 
 sub-put-trail : tie.Need-sub-put-trail
 sub-put-trail c =
     let start = c .before .before .before .before .before .before in
-    let w : List ℕ = start .args .w .now in
+    let w : List ℕ = start .args .work .now in
     let members = c .before .before .put-members in
     let room = lent-room (start .args .out .now) (membersPart w (start .args .n)) (members .last .1 .1 .0)
     (trailPart w (start .args .k)) (members .result) (members .ensures) (start .pre .1) in
@@ -27,7 +27,7 @@ sub-put-trail c =
 part-put-trail-start : tie.Need-part-put-trail-start
 part-put-trail-start c =
     let start = c .before .before .before .before .before .before in
-    let w : List ℕ = start .args .w .now in
+    let w : List ℕ = start .args .work .now in
     let members = c .before .before .put-members in
     let room = lent-room (start .args .out .now) (membersPart w (start .args .n)) (members .last .1 .1 .0)
     (trailPart w (start .args .k)) (members .result) (members .ensures) (start .pre .1) in
@@ -39,7 +39,7 @@ part-put-trail-end c = search needs
 put-trail-requires : tie.Need-put-trail-requires
 put-trail-requires c κs =
     let start = c .before .before .before .before .before .before .before in
-    let w : List ℕ = start .args .w .now in
+    let w : List ℕ = start .args .work .now in
     let members = c .before .before .before .put-members in
     let room = lent-room (start .args .out .now) (membersPart w (start .args .n)) (members .last .1 .1 .0)
     (trailPart w (start .args .k)) (members .result) (members .ensures) (start .pre .1) in
@@ -51,7 +51,7 @@ same-length c = search needs
 returns : tie.Need-returns
 returns c =
     let start = c .before .before .before .before .before .before .before .before .before .before in
-    let w : List ℕ = start .args .w .now in
+    let w : List ℕ = start .args .work .now in
     let members = c .before .before .before .before .before .before .put-members in
     let trail = c .before .before .put-trail in
     lent-after (start .args .out .now) (membersPart w (start .args .n)) (members .last .1 .1 .0) (trailPart w (start .args .k))

@@ -3,8 +3,8 @@ use mathlib.Core.Path.{_∙_}
 use native.Mathlib.Omega.{arith}
 use lib.ListN.{length-set}
 use borrow.Author.Needs.{needs}
-use Rattle.text.specs.LineLaws.{stored-length}
-use Rattle.report_bytes.specs.Putting.{stored-step}
+use Rattle.text.specs.StoredText.{stored-length}
+use Rattle.report_bytes.specs.BytesStored.{stored-step}
 use Rattle.report_bytes.proofs.put_step.Statement.{statement}
 use Rattle.report_bytes.proofs.put_step.Tie as tie
 
@@ -88,7 +88,7 @@ returns c =
     let second = third .before .before .before .before .before in
     let first = second .before .before .before .before in
     let start = first .before .before .before .before .before .before in
-    stored-step (start .args .w .now) (start .args .i) (first .put-word .ensures) (second .put-word2 .ensures) (third .put-word3 .ensures)
+    stored-step (start .args .work .now) (start .args .i) (first .put-word .ensures) (second .put-word2 .ensures) (third .put-word3 .ensures)
 
 pub put-step-spec : {M : Type 1} → statement M
 put-step-spec =

@@ -5,10 +5,10 @@ use Prim.Native.Nat.{ℕ, _+_, _-_, _≤_}
 use native.Mathlib.Omega.{arith}
 use lib.ListN.{take}
 use borrow.Author.Needs.{needs}
-use Rattle.text.specs.LineLaws.{stored-length}
+use Rattle.text.specs.StoredText.{stored-length}
 use Rattle.text.specs.Slices.{Stored}
 use Rattle.packing.specs.Packing.{eightBytes}
-use Rattle.report_bytes.specs.Putting.{stored-thread}
+use Rattle.report_bytes.specs.BytesStored.{stored-thread}
 use Rattle.report_bytes.proofs.put_threads.Statement.{statement}
 use Rattle.report_bytes.proofs.put_threads.Tie as tie
 

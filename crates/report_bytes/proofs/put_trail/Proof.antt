@@ -4,10 +4,10 @@ use mathlib.Core.Path.{_≡_, _∙_, subst}
 use Prim.Native.Nat.{ℕ, _-_, _≤_}
 use native.Mathlib.Omega.{arith}
 use borrow.Author.Needs.{needs}
-use Rattle.text.specs.LineLaws.{stored-length, stored-then}
+use Rattle.text.specs.StoredText.{stored-length, stored-then}
 use Rattle.text.specs.Slices.{Stored}
-use Rattle.report_bytes.specs.Putting.{joined, joined-room, stored-none, stored-next, stored-front}
-use Rattle.report_bytes.specs.HeldReport.{stepBytesAt}
+use Rattle.report_bytes.specs.BytesStored.{joined, joined-room, stored-none, stored-next, stored-front}
+use Rattle.report_bytes.specs.ReportLayout.{stepBytesAt}
 use Rattle.report_bytes.proofs.put_trail.Statement.{statement}
 use Rattle.report_bytes.proofs.put_trail.Tie as tie
 
@@ -26,7 +26,7 @@ put-word-requires c κs = search needs
 loop-holds : tie.Need-loop-holds Inv-loop μ-loop
 loop-holds c =
     let count = c .before .before .put-word in
-    let w : List ℕ = c .before .before .before .before .before .before .args .w .now in
+    let w : List ℕ = c .before .before .before .before .before .before .args .work .now in
     (search needs, stored-none (stepBytesAt w) (count .last .0) (count .result))
 
 put-step-requires : tie.Need-put-step-requires Inv-loop μ-loop
@@ -40,7 +40,7 @@ put-step-requires c κs =
       start .pre .0 .sides i (search needs),
       omega (
         arith,
-        joined-room (stepBytesAt (start .args .w .now)) i (start .args .k) (search needs),
+        joined-room (stepBytesAt (start .args .work .now)) i (start .args .k) (search needs),
         s .place,
         stored-length s,
         count .place,
@@ -59,7 +59,7 @@ loop-again : tie.Need-loop-again Inv-loop μ-loop
 loop-again c =
     let at-loop = c .before .before .before .before .before in
     let start = at-loop .before .before .before .before .before .before .before in
-    let w : List ℕ = start .args .w .now in
+    let w : List ℕ = start .args .work .now in
     (search needs, stored-next (stepBytesAt w) (at-loop .loop .i) (at-loop .loop .inv .1) (c .before .before .put-step .ensures))
 
 same-length : tie.Need-same-length Inv-loop μ-loop
@@ -68,7 +68,7 @@ same-length c = stored-length (c .before .loop .inv .1) ∙ stored-length (c .be
 returns : tie.Need-returns Inv-loop μ-loop
 returns c =
     let start = c .before .before .before .before .before .before .before .before in
-    let w : List ℕ = start .args .w .now in
+    let w : List ℕ = start .args .work .now in
     let count = c .before .before .before .before .put-word in
     let at-loop = c .before .loop in
     let e : at-loop .i ≡ start .args .k = omega arith in

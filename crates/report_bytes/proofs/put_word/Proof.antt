@@ -2,7 +2,7 @@
 use native.Mathlib.Omega.{arith}
 use lib.ListN.{length-set}
 use borrow.Author.Needs.{needs}
-use Rattle.report_bytes.specs.Putting.{stored-word}
+use Rattle.report_bytes.specs.BytesStored.{stored-word}
 use Rattle.report_bytes.proofs.put_word.Statement.{statement}
 use Rattle.report_bytes.proofs.put_word.Tie as tie
 

@@ -6,9 +6,9 @@ use native.Mathlib.Omega.{arith}
 use lib.ListN.{length}
 use borrow.Author.Needs.{needs}
 use Rattle.packing.specs.PackingLaws.{packed-count}
-use Rattle.report_bytes.specs.ReportHeld.{PackedAt}
-use Rattle.report_bytes.specs.Putting.{joined, joined-none, joined-length, member-length, held-length}
-use Rattle.report_bytes.specs.HeldReport.{memberBytesAt}
+use Rattle.report_bytes.specs.ReportInSlice.{PackedAt}
+use Rattle.report_bytes.specs.BytesStored.{joined, joined-none, joined-length, member-length, held-length}
+use Rattle.report_bytes.specs.ReportLayout.{memberBytesAt}
 use Rattle.report_bytes.proofs.report_length.Statement.{statement}
 use Rattle.report_bytes.proofs.report_length.Tie as tie
 
@@ -26,7 +26,7 @@ add-total : tie.Need-add-total Inv-loop μ-loop
 add-total c = search needs
 
 loop-holds : tie.Need-loop-holds Inv-loop μ-loop
-loop-holds c = (search needs, omega (arith, ap length (joined-none (memberBytesAt (c .args .w .now)))), search needs)
+loop-holds c = (search needs, omega (arith, ap length (joined-none (memberBytesAt (c .args .work .now)))), search needs)
 
 mul-total-2 : tie.Need-mul-total-2 Inv-loop μ-loop
 mul-total-2 c = search needs
@@ -57,7 +57,7 @@ loop-less c = search needs
 
 loop-again : tie.Need-loop-again Inv-loop μ-loop
 loop-again c =
-    let w : List ℕ = c .before .before .before .args .w .now in
+    let w : List ℕ = c .before .before .before .args .work .now in
     let i : ℕ = c .before .before .loop .place in
     let p : PackedAt w i = c .before .before .before .pre .members .packed i (search needs) in (
       search needs,
@@ -69,7 +69,7 @@ returns : tie.Need-returns Inv-loop μ-loop
 returns c =
     let args = c .before .before .args in
     let e : c .before .loop .place ≡ args .n = omega arith in
-    omega (arith, held-length (args .w .now) (args .n) (args .k), ap (λ (i : ℕ). length (joined (memberBytesAt (args .w .now)) i)) e)
+    omega (arith, held-length (args .work .now) (args .n) (args .k), ap (λ (i : ℕ). length (joined (memberBytesAt (args .work .now)) i)) e)
 
 pub report-length-spec : {M : Type 1} → statement M
 report-length-spec =

@@ -3,10 +3,10 @@ use native.Mathlib.Omega.{arith}
 use Prim.Native.Nat.{ℕ, _+_}
 use mathlib.Core.Path.{ap}
 use borrow.Author.Needs.{needs}
-use Rattle.lines.specs.Lines.{field}
+use Rattle.printed_lines.specs.Lines.{field}
 use Rattle.sheets.specs.Reading.{word}
 use Rattle.comparison.specs.Print.{threadsText}
-use Rattle.text.specs.LineLaws.{stored-then}
+use Rattle.text.specs.StoredText.{stored-then}
 use Rattle.report_text.specs.AnswerText.{threadsIn}
 use Rattle.report_text.specs.TextLaws.{position-short, stored-as}
 use Rattle.report_text.proofs.member_line.Statement.{statement}

@@ -5,7 +5,7 @@ use Prim.Native.Nat.{ℕ, _+_, _-_, _*_, _≤_}
 use mathlib.Core.Path.{_≡_, sym, ap, ap₂, _∙_}
 use mathlib.Core.List.{_++_}
 use Rattle.text.specs.Slices.{Stored}
-use Rattle.text.specs.LineLaws.{stored-then, stored-length}
+use Rattle.text.specs.StoredText.{stored-then, stored-length}
 use Rattle.report_text.specs.Runs.{place-none, place-next, lines-none, lines-next}
 use Rattle.report_text.specs.AnswerText.{threadCount, memberEnd, memberText, membersEnd, membersText}
 use Rattle.report_text.specs.TextLaws.{stored-none, stored-as}

@@ -1,5 +1,5 @@
 -- The word, the field and the line's end are stored one after another.
-use Rattle.text.specs.LineLaws.{stored-then}
+use Rattle.text.specs.StoredText.{stored-then}
 use borrow.Author.Needs.{needs}
 use native.Mathlib.Omega.{arith}
 use Rattle.report_text.proofs.put_line.Statement.{statement}

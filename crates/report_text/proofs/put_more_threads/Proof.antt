@@ -6,7 +6,7 @@ use mathlib.Core.Path.{_≡_, ap}
 use lib.ListN.{getD}
 use Rattle.comparison.specs.Print.{moreThreads}
 use Rattle.text.specs.Slices.{Stored}
-use Rattle.text.specs.LineLaws.{stored-then, stored-length}
+use Rattle.text.specs.StoredText.{stored-then, stored-length}
 use Rattle.report_text.specs.AnswerText.{threadsIn}
 use Rattle.report_text.specs.TextLaws.{more-none, more-one, stored-none, stored-as}
 use Rattle.report_text.proofs.put_more_threads.Statement.{statement}

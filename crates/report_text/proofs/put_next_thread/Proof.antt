@@ -2,9 +2,9 @@
 use mathlib.Core.Path.{ap}
 use mathlib.Core.List.{_∷_}
 use Prim.Native.Nat.{ℕ}
-use Rattle.lines.specs.Decimal.{decimal}
+use Rattle.printed_lines.specs.Decimal.{decimal}
 use Rattle.comparison.specs.Print.{plus}
-use Rattle.text.specs.LineLaws.{stored-then}
+use Rattle.text.specs.StoredText.{stored-then}
 use Rattle.report_text.specs.TextLaws.{byte-short, stored-as}
 use borrow.Author.Needs.{needs}
 use native.Mathlib.Omega.{arith}

@@ -4,9 +4,9 @@ use Prim.Native.Nat.{ℕ, _+_, _-_}
 use mathlib.Core.Path.{ap, _∙_}
 use borrow.Author.Needs.{needs}
 use mathlib.Core.List.{_++_}
-use Rattle.lines.specs.Decimal.{decimal}
+use Rattle.printed_lines.specs.Decimal.{decimal}
 use Rattle.comparison.specs.Print.{moreThreads}
-use Rattle.text.specs.LineLaws.{stored-then}
+use Rattle.text.specs.StoredText.{stored-then}
 use Rattle.report_text.specs.AnswerText.{threadsIn}
 use Rattle.report_text.specs.TextLaws.{threads-none, threads-some, byte-short, stored-as}
 use Rattle.report_text.proofs.put_threads.Statement.{statement}

@@ -1,6 +1,6 @@
 -- The number has at most five digits, so that the field ends at most six places further.
 use mathlib.Core.Path.{ap}
-use Rattle.lines.specs.Lines.{field}
+use Rattle.printed_lines.specs.Lines.{field}
 use Rattle.report_text.specs.TextLaws.{word-short, stored-as}
 use borrow.Author.Needs.{needs}
 use native.Mathlib.Omega.{arith}

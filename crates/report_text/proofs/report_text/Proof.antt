@@ -1,7 +1,7 @@
 -- The first line, the count of members, their lines, the count of steps and their lines are stored one after another.
 use borrow.Author.Needs.{needs}
 use native.Mathlib.Omega.{arith}
-use Rattle.text.specs.LineLaws.{stored-then}
+use Rattle.text.specs.StoredText.{stored-then}
 use Rattle.report_text.specs.TextLaws.{stored-as}
 use Rattle.report_text.specs.ReportTextLaws.{text-parts, report-written}
 use Rattle.report_text.proofs.report_text.Statement.{statement}

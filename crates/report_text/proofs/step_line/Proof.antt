@@ -2,7 +2,7 @@
 use mathlib.Core.Path.{ap, _∙_}
 use mathlib.Core.List.{[], _∷_}
 use Prim.Native.Nat.{ℕ}
-use Rattle.text.specs.LineLaws.{stored-then}
+use Rattle.text.specs.StoredText.{stored-then}
 use Rattle.report_text.specs.AnswerText.{letterOf}
 use Rattle.report_text.specs.TextLaws.{stored-as}
 use borrow.Author.Needs.{needs}

@@ -5,15 +5,12 @@ use Prim.Native.Nat.{ℕ, _+_, _-_, _*_, _≤_}
 use mathlib.Core.Path.{_≡_, sym, ap, _∙_}
 use mathlib.Core.List.{_++_}
 use Rattle.text.specs.Slices.{Stored}
-use Rattle.text.specs.LineLaws.{stored-then, stored-length}
+use Rattle.text.specs.StoredText.{stored-then, stored-length}
 use Rattle.report_text.specs.Runs.{placeAfter, place-none, place-next, lines-none, lines-next}
 use Rattle.report_text.specs.AnswerText.{stepText, stepEnd, stepsText}
 use Rattle.report_text.specs.TextLaws.{stored-none, stored-as}
 use Rattle.report_text.proofs.step_lines.Statement.{statement}
 use Rattle.report_text.proofs.step_lines.Tie as tie
-use Rattle.report_text.proofs.step_lines.Reads as reads
-use Rattle.report_text.proofs.step_lines.Lts as lts
-use Rattle.report_text.proofs.step_line.Reads as step-line-reads
 
 abbrev Inv-loop : tie.InvT-loop
 Inv-loop s start n out₀ at from₀ next₀ i₀ out from next i =

@@ -2,7 +2,7 @@
 use mathlib.Core.Path.{sym, ap}
 use mathlib.Core.Bool.{Bool}
 use mathlib.Core.List.{[], _∷_}
-use Rattle.lines.specs.Lines.{line}
+use Rattle.printed_lines.specs.Lines.{line}
 use Rattle.report_text.specs.AnswerText.{wordOf}
 use Rattle.report_text.specs.TextLaws.{stored-as}
 use native.Mathlib.Omega.{arith}

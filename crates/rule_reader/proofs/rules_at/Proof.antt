@@ -1,10 +1,10 @@
 -- The count is handed on to the rules.
 use lib.ListN.{replicate}
-use Rattle.closing.specs.Layout.{rulesIn}
-use Rattle.sheets.specs.Limits.{maxRules}
+use Rattle.set_closure.specs.RuleTable.{rulesIn}
+use Rattle.sheets.specs.SheetLimits.{maxRules}
 use Rattle.sheets.specs.Reading.{rulesAt}
-use Rattle.held.specs.AnswerLaws.{answer-got, refused-with, refused-then, got-then}
-use Rattle.sheets.specs.FieldLaws.{count-gets}
+use Rattle.sheet_types.specs.SectionLaws.{answer-got, refused-with, refused-then, got-then}
+use Rattle.sheet_laws.specs.FieldLaws.{count-gets}
 use mathlib.Core.Path.{sym, _∙_}
 use borrow.Author.Needs.{needs}
 use Rattle.rule_reader.proofs.rules_at.Statement.{statement}

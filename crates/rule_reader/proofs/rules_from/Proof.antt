@@ -2,11 +2,11 @@
 use mathlib.Core.List.{[]}
 use lib.ListN.{length, replicate, length-set}
 use Rattle.sheets.specs.Reading.{got, recordsFrom}
-use Rattle.sheets.specs.RecordLaws.{records-none, records-refused}
-use Rattle.held.specs.AnswerLaws.{answer-got, answer-refused, refused-with}
-use Rattle.closing.specs.Layout.{rulesIn}
-use Rattle.sheets.specs.FieldLaws.{set-gets, premise-gets}
-use Rattle.sheets.specs.SectionLaws.{rule-no-premise, rule-no-conclusion, rule-got}
+use Rattle.sheet_laws.specs.RecordLaws.{records-none, records-refused}
+use Rattle.sheet_types.specs.SectionLaws.{answer-got, answer-refused, refused-with}
+use Rattle.set_closure.specs.RuleTable.{rulesIn}
+use Rattle.sheet_laws.specs.FieldLaws.{set-gets, premise-gets}
+use Rattle.sheet_laws.specs.SectionLaws.{rule-no-premise, rule-no-conclusion, rule-got}
 use Rattle.rule_reader.specs.RuleLoop.{ruleItem, rules-first, rules-next}
 use borrow.Author.Needs.{needs}
 use native.Mathlib.Omega.{arith}

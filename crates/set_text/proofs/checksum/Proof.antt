@@ -3,11 +3,11 @@ use borrow.Author.Needs.{needs}
 use mathlib.Core.Path.{_≡_, _∙_}
 use native.Mathlib.Omega.{arith}
 use Prim.Native.Nat.{_-_, _*_, _≤_}
-use Rattle.work_places.specs.WorkPlaces.{membersAt}
 use Rattle.set_text.specs.SetText.{mixAll, mixMembers}
 use Rattle.set_text.specs.SetTextLaws.{members-none, members-next}
 use Rattle.set_text.proofs.checksum.Statement.{statement}
 use Rattle.set_text.proofs.checksum.Tie as tie
+use Rattle.work_layout.specs.WorkLayout.{membersAt}
 
 abbrev Inv-loop : tie.InvT-loop
 Inv-loop w n s₀ i₀ s i = (i ≤ n) × (s ≡ mixMembers w i (mixAll w membersAt (3 * n) 0))
@@ -24,7 +24,7 @@ mix-numbers-requires c κs = search needs
 loop-holds : tie.Need-loop-holds Inv-loop μ-loop
 loop-holds c =
     let args = c .before .before .args in
-    (search needs, c .mix-numbers .ensures ∙ members-none (args .w .now) (mixAll (args .w .now) membersAt (3 * args .n) 0))
+    (search needs, c .mix-numbers .ensures ∙ members-none (args .work .now) (mixAll (args .work .now) membersAt (3 * args .n) 0))
 
 mix-moves-requires : tie.Need-mix-moves-requires Inv-loop μ-loop
 mix-moves-requires c κs = search needs
@@ -40,7 +40,7 @@ loop-again c =
     let args = c .before .before .before .before .before .args in
     let at-loop = c .before .before .loop in (
       search needs,
-      rw (c .mix-moves .ensures, at-loop .inv .1) (members-next (args .w .now) (at-loop .i) (mixAll (args .w .now) membersAt (3 * args .n) 0)),
+      rw (c .mix-moves .ensures, at-loop .inv .1) (members-next (args .work .now) (at-loop .i) (mixAll (args .work .now) membersAt (3 * args .n) 0)),
     )
 
 returns : tie.Need-returns Inv-loop μ-loop

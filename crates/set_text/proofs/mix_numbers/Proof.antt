@@ -37,7 +37,7 @@ loop-again c =
     let args = c .before .before .before .before .before .args in
     let at-loop = c .before .before .before .loop in (
       search needs,
-      rw (c .mixed .ensures, c .before .number-at .ensures, at-loop .inv .1) (mix-next (args .w .now) (args .from) (at-loop .i) (args .sum)),
+      rw (c .mixed .ensures, c .before .number-at .ensures, at-loop .inv .1) (mix-next (args .work .now) (args .from) (at-loop .i) (args .sum)),
     )
 
 returns : tie.Need-returns Inv-loop μ-loop

@@ -1,7 +1,7 @@
 -- The word, the three fields and the line's end are stored one after another.
 use native.Mathlib.Omega.{arith}
 use borrow.Author.Needs.{needs}
-use Rattle.text.specs.LineLaws.{stored-then, line-written, line-kept}
+use Rattle.text.specs.StoredText.{stored-then, line-written, line-kept}
 use Rattle.set_text.proofs.set_line.Statement.{statement}
 use Rattle.set_text.proofs.set_line.Tie as tie
 

@@ -1,10 +1,10 @@
 -- `read_choice` hands up the sheet's refusal, and refuses a start that is not on the sheet, the left first.
 use mathlib.Core.Path.{refl}
 use Rattle.sheets.specs.Reading.{readSheet, readChoice}
-use Rattle.sheets.specs.ReadingLaws.{choice-no-sheet}
-use Rattle.held.specs.Held.{sheetOf}
-use Rattle.held.specs.AnswerLaws.{with-refused}
-use Rattle.sheet_reader.specs.Found.{found-no-left, found-no-right, found-chosen, refusal-up, sheet-refused}
+use Rattle.sheet_laws.specs.ReadingLaws.{choice-no-sheet}
+use Rattle.sheet_types.specs.HeldSheet.{sheetOf}
+use Rattle.sheet_types.specs.SectionLaws.{with-refused}
+use Rattle.sheet_reader.specs.SheetFound.{found-no-left, found-no-right, found-chosen, refusal-up, sheet-refused}
 use borrow.Author.Needs.{needs}
 use Rattle.sheet_reader.proofs.read_choice.Statement.{statement}
 use Rattle.sheet_reader.proofs.read_choice.Tie as tie

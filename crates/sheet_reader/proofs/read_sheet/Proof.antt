@@ -1,15 +1,15 @@
 -- `read_sheet` reads the sections one after another; the first refusal is handed up, and the sheet is made of what was read.
 use mathlib.Core.Path.{refl, sym, subst, _∙_}
-use Rattle.lists.specs.Tables.{tabulate-length}
+use Rattle.list_laws.specs.Tabulate.{tabulate-length}
 use Rattle.sheets.specs.Reading.{readSheet}
-use Rattle.closing.specs.Layout.{rulesIn}
-use Rattle.held.specs.Held.{nodeIn, nodesIn, startsIn}
-use Rattle.held.specs.AnswerLaws.{answer-got, answer-refused, with-got, with-refused, same-value, refused-never}
-use Rattle.opening.specs.Table.{Few}
-use Rattle.sheets.specs.FieldLaws.{facts-gets}
-use Rattle.sheets.specs.SectionLaws.{rules-gets}
-use Rattle.sheets.specs.ReadingLaws.{no-facts, no-rules, no-nodes, no-starts, more-bytes, all-read}
-use Rattle.sheet_reader.specs.Found.{sheet-refused, count-few}
+use Rattle.set_closure.specs.RuleTable.{rulesIn}
+use Rattle.sheet_types.specs.HeldSheet.{nodeIn, nodesIn, startsIn}
+use Rattle.sheet_types.specs.SectionLaws.{answer-got, answer-refused, with-got, with-refused, same-value, refused-never}
+use Rattle.node_opening.specs.OpenedNodes.{Few}
+use Rattle.sheet_laws.specs.FieldLaws.{facts-gets}
+use Rattle.sheet_laws.specs.SectionLaws.{rules-gets}
+use Rattle.sheet_laws.specs.ReadingLaws.{no-facts, no-rules, no-nodes, no-starts, more-bytes, all-read}
+use Rattle.sheet_reader.specs.SheetFound.{sheet-refused, count-few}
 use borrow.Author.Needs.{needs}
 use Rattle.sheet_reader.proofs.read_sheet.Statement.{statement}
 use Rattle.sheet_reader.proofs.read_sheet.Tie as tie

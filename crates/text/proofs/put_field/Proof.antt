@@ -3,8 +3,8 @@ use native.Mathlib.Omega.{arith}
 use mathlib.Core.Path.{_∙_}
 use borrow.Author.Needs.{needs}
 use lib.ListN.{length-set}
-use Rattle.lines.specs.Lines.{space}
-use Rattle.text.specs.LineLaws.{stored-then, stored-byte, stored-length}
+use Rattle.printed_lines.specs.Lines.{space}
+use Rattle.text.specs.StoredText.{stored-then, stored-byte, stored-length}
 use Rattle.text.proofs.put_field.Statement.{statement}
 use Rattle.text.proofs.put_field.Tie as tie
 

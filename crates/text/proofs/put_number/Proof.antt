@@ -7,11 +7,11 @@ use mathlib.Core.Path.{_≡_, refl, sym, ap, _∙_}
 use native.Mathlib.Nat.{div-one}
 use lib.ListN.{length, length-set}
 use lib.Seq.{set-set}
-use Rattle.lines.specs.Decimal.{decimal}
-use Rattle.lines.specs.DecimalLaws.{decimal-one, decimal-some, decimal-short}
+use Rattle.printed_lines.specs.Decimal.{decimal}
+use Rattle.text.specs.DecimalLaws.{decimal-one, decimal-some, decimal-short}
 use Rattle.text.specs.Powers.{PowerOfTen, power-positive, power-tenth, digits-next, next-fits}
 use Rattle.text.specs.Slices.{Stored}
-use Rattle.text.specs.LineLaws.{stored-then, stored-byte, stored-over, stored-length}
+use Rattle.text.specs.StoredText.{stored-then, stored-byte, stored-over, stored-length}
 use Rattle.text.proofs.put_number.Statement.{statement}
 use Rattle.text.proofs.put_number.Tie as tie
 

@@ -7,7 +7,7 @@ use mathlib.Core.Path.{refl, subst}
 use lib.ListN.{length, take}
 use lib.Seq.{take-all}
 use Rattle.text.specs.Slices.{Stored}
-use Rattle.text.specs.LineLaws.{stored-more, stored-length}
+use Rattle.text.specs.StoredText.{stored-more, stored-length}
 use Rattle.text.proofs.put_text.Statement.{statement}
 use Rattle.text.proofs.put_text.Tie as tie
 

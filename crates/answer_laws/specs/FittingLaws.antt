@@ -1,0 +1,214 @@
+-- Every report of the call fits its bytes: its members are ordered, its numbers are small, and its trail stays among its members.
+use mathlib.Core.Path.{_≡_, refl, sym, ap, _∙_, subst}
+use mathlib.Core.Logic.{⊎-elim}
+use mathlib.Core.Bool.{Bool, true, false, _||_}
+use mathlib.Core.List.{List, [], _∷_, List·Memᴰ, List·Memᴰ·head, List·Memᴰ·tail, List·Memᴰ·not-nil, List·Memᴰ·cases-cons, List·Memᴰ·eq-of-singleton}
+use Prim.Native.Nat.{ℕ, zero, suc, _+_, _-_, _^_, _≤_, _<_}
+use native.Mathlib.Omega.{arith}
+use lib.Pow.{pow-mono}
+use lib.ListN.{length, getD}
+use lib.Dec.{eqb, ltb}
+use borrow.Author.Tests.{ltb-false}
+use Rattle.list_laws.specs.TestLaws.{or-false}
+use Rattle.lists.specs.Lists.{any}
+use Rattle.list_laws.specs.Members.{any-no}
+use Rattle.list_laws.specs.ListPlaces.{getD-in}
+use Rattle.stores.specs.Stores.{Constraint}
+use Rattle.sheets.specs.SheetLimits.{maxFacts}
+use Rattle.sheets.specs.Sheet.{Configuration, Sheet}
+use Rattle.sheets.specs.WellFormed.{OfSheet, Admissible, WellFormed}
+use Rattle.sheet_laws.specs.ReadingLaws.{choice-reads, read-admissible}
+use Rattle.moves.specs.Orders.{Move}
+use Rattle.moves.specs.Moves.{moves}
+use Rattle.refinement_laws.specs.StableRounds.{member-of}
+use Rattle.comparison.specs.CallLimits.{Limits, NoGreater, limits}
+use Rattle.comparison.specs.Set.{explored, fits}
+use Rattle.comparison.specs.Classes.{numberedFrom, numbered}
+use Rattle.comparison_laws.specs.ClassLaws.{Numbering, no-more, in-use, next, numberedFrom-numbering}
+use Rattle.comparison.specs.Rounds.{rounds, classes, refined, resultOf, apartIn, storesEqual, together}
+use Rattle.comparison.specs.Trail.{Side, left, right, Reply, none, move, TrailStep, after, firstOf, replyTo, unanswered, trailFrom}
+use Rattle.comparison_laws.specs.TrailLaws.{unanswered-mem, reply-mem, trail-length}
+use Rattle.comparison.specs.Report.{Report, reportOn}
+use Rattle.comparison.specs.Frame.{reported, start}
+use Rattle.comparison.specs.Call.{compareWith}
+use Rattle.comparison.specs.Promise.{PassesLimit, startsOf}
+use Rattle.comparison_laws.specs.SetLaws.{explored-seeds, explored-member, explored-ascends, explored-closed, fits-not-over, limit-passed}
+use Rattle.comparison_laws.specs.RoundLaws.{ClosedList}
+use Rattle.comparison_laws.specs.SheetMoves.{lawful}
+use Rattle.comparison.specs.SheetTransitions.{transitions}
+use Rattle.comparison_laws.specs.ResultLaws.{rounds-of, rounds-at, result-is}
+use Rattle.comparison_laws.specs.Theorem.{member-some}
+use Rattle.comparison_laws.specs.CallTheorem.{reports-exactly}
+use Rattle.answer_laws.specs.Fitting.{ReplyFits, StepFits, Fitting}
+
+-- ---- classes
+numbered-length : {A : Type 0} (test : A → A → Bool) (firsts ps : List A) → length (numberedFrom test firsts ps) ≡ length ps
+unfolding numberedFrom
+numbered-length test firsts [] = refl
+numbered-length test firsts (p ∷ ps) = ap suc (numbered-length test _ ps)
+
+-- a number is one of those in use, or one of as many more as there are numbers
+numbering-small : {n : ℕ} {ks : List ℕ} → Numbering n ks → (i : ℕ) → getD ks i 0 ≤ n + length ks
+numbering-small no-more zero = omega arith
+numbering-small no-more (suc i) = omega arith
+numbering-small (in-use h s) zero = omega (arith, h)
+numbering-small (in-use h s) (suc i) = omega (arith, numbering-small s i)
+numbering-small (next s) zero = omega arith
+numbering-small (next s) (suc i) = omega (arith, numbering-small s i)
+
+numbers-small : (test : Configuration → Configuration → Bool) (set : List Configuration) (i : ℕ) → getD (numbered test set) i 0 ≤ length set
+numbers-small test set i = omega (arith, numbering-small (numberedFrom-numbering test [] set) i, numbered-length test [] set)
+
+-- the classes of every round are at most the number of members
+classes-small : (sheet : Sheet) (set : List Configuration) (n i : ℕ) → getD (classes sheet set n) i 0 ≤ length set
+unfolding classes refined
+classes-small sheet set zero i = numbers-small (storesEqual sheet set) set i
+classes-small sheet set (suc n) i = numbers-small (together sheet set (classes sheet set n)) set i
+
+-- and there is one for each member
+classes-length : (sheet : Sheet) (set : List Configuration) (n : ℕ) → length (classes sheet set n) ≡ length set
+unfolding classes refined
+classes-length sheet set zero = numbered-length (storesEqual sheet set) [] set
+classes-length sheet set (suc n) = numbered-length (together sheet set (classes sheet set n)) [] set
+
+-- ---- constraints and labels
+module _ (sheet : Sheet) (fine : Admissible sheet) where
+  wf : WellFormed sheet
+  wf = fine .well-formed
+
+  -- a constraint of a sheet is a number of two bytes
+  constraint-small : {c : ℕ} → Constraint (sheet .facts) (sheet .rules) c → c < 65536
+  constraint-small h =
+      let p : 2 ^ sheet .facts ≤ 2 ^ maxFacts = pow-mono {i = sheet .facts} {j = maxFacts} (fine .within .few-facts) in
+      omega (arith, h .facts, p)
+
+  move-label-small : (p : Configuration) (m : Move) → List·Memᴰ m (moves sheet p) → m .label < 65536
+  move-label-small p m i = constraint-small (lawful sheet wf .move-constraint p (m .label) (m .target) i)
+
+  -- ---- the trail among the members of a closed set
+  module _ (set : List Configuration) (rs : List (List ℕ)) (closed : ClosedList sheet set) where
+    abbrev AllFit : List TrailStep → Type 0
+    AllFit steps = (t : TrailStep) → List·Memᴰ t steps → StepFits set t
+
+    fit-more : (s : TrailStep) (more : List TrailStep) → StepFits set s → AllFit more → AllFit (s ∷ more)
+    fit-more s more h f t i =
+        ⊎-elim (λ (e : t ≡ s). subst (StepFits set) (sym e) h) (λ (j : List·Memᴰ t more). f t j) (List·Memᴰ·cases-cons i)
+
+    fit-none : AllFit []
+    fit-none t i = absurd (List·Memᴰ·not-nil i)
+
+    -- a reply is a move of the other
+    reply-fits : (q : Configuration) → List·Memᴰ q set → (m : Move) (k : Reply) → replyTo sheet set rs q m ≡ k → ReplyFits set (m .label) k
+    reply-fits q mq m none e = tt
+    reply-fits q mq m (move k) e =
+        let r = reply-mem sheet set rs q m k e in
+        (r .1, closed .targets q k mq (r .0))
+
+    after-fits : (more : Configuration → Configuration → List TrailStep)
+        → ((p q : Configuration) → List·Memᴰ p set → List·Memᴰ q set → AllFit (more p q))
+        → (side : Side) (m : Move) (k : Reply) → m .label < 65536 → List·Memᴰ (m .target) set → ReplyFits set (m .label) k
+        → AllFit (after sheet set rs more side m k)
+    after-fits more f side m none h i r =
+        fit-more (record { side = side; label = m .label; target = m .target; reply = none }) []
+        (record { label = h; target = i; reply = r }) fit-none
+    after-fits more f left m (move k) h i r =
+        fit-more (record { side = left; label = m .label; target = m .target; reply = move k }) (more (m .target) (k .target))
+        (record { label = h; target = i; reply = r }) (f (m .target) (k .target) i (r .1))
+    after-fits more f right m (move k) h i r =
+        fit-more (record { side = right; label = m .label; target = m .target; reply = move k }) (more (k .target) (m .target))
+        (record { label = h; target = i; reply = r }) (f (k .target) (m .target) (r .1) i)
+
+    first-fits : (more : Configuration → Configuration → List TrailStep)
+        → ((p q : Configuration) → List·Memᴰ p set → List·Memᴰ q set → AllFit (more p q))
+        → (p q : Configuration) → List·Memᴰ p set → List·Memᴰ q set → (ms ks : List Move)
+        → ((m : Move) → List·Memᴰ m ms → List·Memᴰ m (moves sheet p)) → ((k : Move) → List·Memᴰ k ks → List·Memᴰ k (moves sheet q))
+        → AllFit (firstOf sheet set rs more p q ms ks)
+    first-fits more f p q mp mq (m ∷ ms) ks g h =
+        let i = g m (List·Memᴰ·head refl) in
+        after-fits more f left m (replyTo sheet set rs q m) (move-label-small p m i) (closed .targets p m mp i)
+        (reply-fits q mq m (replyTo sheet set rs q m) refl)
+    first-fits more f p q mp mq [] (k ∷ ks) g h =
+        let i = h k (List·Memᴰ·head refl) in
+        after-fits more f right k (replyTo sheet set rs p k) (move-label-small q k i) (closed .targets q k mq i)
+        (reply-fits p mp k (replyTo sheet set rs p k) refl)
+    first-fits more f p q mp mq [] [] g h = fit-none
+
+    trail-fits : (n : ℕ) (p q : Configuration) → List·Memᴰ p set → List·Memᴰ q set → AllFit (trailFrom sheet set rs n p q)
+    unfolding trailFrom
+    trail-fits zero p q mp mq = fit-none
+    trail-fits (suc n) p q mp mq = go (trail-fits n) (eqb (apartIn set rs p q) 0 || eqb (apartIn set rs p q) (length rs))
+      where
+        go : ((p q : Configuration) → List·Memᴰ p set → List·Memᴰ q set → AllFit (trailFrom sheet set rs n p q)) → (b : Bool)
+            → AllFit (elim b [
+              | true ↦ []
+              | false ↦
+                  let classes = getD rs (apartIn set rs p q - 1) [] in
+                  firstOf sheet set rs (trailFrom sheet set rs n) p q (unanswered sheet set rs classes p q) (unanswered sheet set rs classes q p)
+            ])
+        go ih true = fit-none
+        go ih false =
+            let classes : List ℕ = getD rs (apartIn set rs p q - 1) [] in
+            first-fits (trailFrom sheet set rs n) ih p q mp mq (unanswered sheet set rs classes p q) (unanswered sheet set rs classes q p)
+            (λ m i. unanswered-mem sheet set rs classes p q i .0)
+            (λ k i. unanswered-mem sheet set rs classes q p i .0)
+
+  -- ---- the report on two configurations of the sheet whose set passes no limit
+  pub report-fits : (l : Limits) → NoGreater l limits → (p q : Configuration) → OfSheet sheet p → OfSheet sheet q
+      → fits sheet l (explored sheet l (p ∷ q ∷ [])) ≡ true
+      → Fitting (reportOn sheet (explored sheet l (p ∷ q ∷ [])) p q)
+  unfolding reportOn
+  report-fits l small p q op oq fit =
+      let seeds : List Configuration = p ∷ q ∷ [] in
+      let set : List Configuration = explored sheet l seeds in
+      let rs : List (List ℕ) = rounds sheet set in
+      let within = fits-not-over sheet l seeds fit in
+      let closed = explored-closed sheet l seeds within in
+      let some = member-some set (explored-seeds sheet l seeds p (List·Memᴰ·head refl)) in
+      let no = or-false (ltb (l .members) (length set)) (any (λ m. ltb (l .threads) (length (m .threads))) set) within in
+      let few : length set ≤ l .members = ltb-false (l .members) (length set) (no .0) in
+      let result = result-is sheet set wf closed some in
+      let last : resultOf rs < length rs = omega (arith, rounds-of sheet set wf closed some .some) in
+      record {
+        ordered = explored-ascends sheet l seeds;
+        stores = λ m i.
+            constraint-small (member-of (transitions sheet) (lawful sheet wf) seeds of m (explored-member sheet l seeds m i) .store);
+        threads = λ m i.
+            let h : length (m .threads) ≤ l .threads =
+            ltb-false (l .threads) (length (m .threads)) (any-no (λ m. ltb (l .threads) (length (m .threads))) set (no .1) i) in
+            omega (arith, h, small .threads);
+        numbered =
+            ap length (rounds-at sheet set wf closed some (resultOf rs) last) ∙ classes-length sheet set (resultOf rs);
+        classes = λ i h.
+            subst (λ (l : List ℕ). getD l i 0 < 65536) (sym (rounds-at sheet set wf closed some (resultOf rs) last))
+            (omega (arith, classes-small sheet set (resultOf rs) i, few, small .members));
+        steps =
+            trail-fits set rs closed (length rs) p q (explored-seeds sheet l seeds p (List·Memᴰ·head refl))
+            (explored-seeds sheet l seeds q (List·Memᴰ·tail (List·Memᴰ·head refl)));
+        few-members = omega (arith, few, small .members);
+        few-steps = omega (arith, trail-length sheet set rs p q, result .few, few, small .members);
+      }
+    where
+      of : (m : Configuration) → List·Memᴰ m (p ∷ q ∷ []) → OfSheet sheet m
+      of m i =
+          ⊎-elim (λ (e : m ≡ p). subst (OfSheet sheet) (sym e) op)
+          (λ (j : List·Memᴰ m (q ∷ [])). subst (OfSheet sheet) (sym (List·Memᴰ·eq-of-singleton j)) oq) (List·Memᴰ·cases-cons i)
+
+-- ---- the call
+-- Every report of the call fits its bytes, at limits that are not above document 01's.
+pub outcome-fits : (l : Limits) → NoGreater l limits → (bytes : List ℕ) (first second work answer : ℕ) (q : Report)
+    → compareWith l bytes first second work answer ≡ reported q → Fitting q
+outcome-fits l small bytes first second work answer q e =
+    let g = reports-exactly l bytes first second work answer q .0 e in
+    let sheet : Sheet = g .sheet in
+    let c = choice-reads bytes first second sheet (g .end) (g .read) in
+    let fine : Admissible sheet = read-admissible bytes sheet (g .end) (c .read) in
+    subst Fitting (sym (g .report))
+    (report-fits sheet fine l small (start sheet first) (start sheet second)
+    (fine .starts-fit (start sheet first) (getD-in (sheet .starts) first (record { store = 0; threads = [] }) (c .left-start)))
+    (fine .starts-fit (start sheet second) (getD-in (sheet .starts) second (record { store = 0; threads = [] }) (c .right-start)))
+    (fits-where sheet (fits sheet l (explored sheet l (startsOf sheet first second))) refl (g .no-limit)))
+  where
+    fits-where : (sheet : Sheet) (b : Bool) → fits sheet l (explored sheet l (startsOf sheet first second)) ≡ b
+        → (PassesLimit sheet l (startsOf sheet first second) → ⊥) → b ≡ true
+    fits-where sheet true e n = refl
+    fits-where sheet false e n = absurd (n (limit-passed sheet l (startsOf sheet first second) e))

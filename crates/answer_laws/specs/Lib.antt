@@ -1,0 +1,4 @@
+pub mod Fitting
+pub mod MemberPlaces
+pub mod FittingLaws
+pub mod ReadBackLaws

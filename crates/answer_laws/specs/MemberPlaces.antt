@@ -1,0 +1,38 @@
+-- A member of an ascending set stands at its place.
+use mathlib.Core.Path.{_≡_, sym, _∙_, subst}
+use mathlib.Core.Bool.{true}
+use mathlib.Core.List.{List}
+use Prim.Native.Nat.{ℕ, _<_}
+use native.Mathlib.Omega.{arith}
+use lib.ListN.{length, getD}
+use lib.Dec.{ltb}
+use borrow.Author.Tests.{ltb-true, ltb-false}
+use Rattle.list_laws.specs.TestLaws.{Tested, passes, fails, tested}
+use Rattle.lists.specs.Lists.{Ascends}
+use Rattle.list_laws.specs.ListPlaces.{getD-in, getD-any, ascends-places}
+use Rattle.sheets.specs.Sheet.{Configuration}
+use Rattle.moves.specs.Orders.{configurationBefore}
+use Rattle.move_laws.specs.OrderLaws.{configurationOrder}
+use Rattle.comparison.specs.Classes.{placeOf}
+use Rattle.comparison_laws.specs.ClassLaws.{placeOf-lt, placeOf-at}
+
+-- no two places have one member
+apart : (set : List Configuration) → Ascends configurationBefore set → (d : Configuration) (i j : ℕ) → i < j → j < length set
+    → getD set i d ≡ getD set j d → ⊥
+apart set asc d i j h l e =
+    configurationOrder .irreflexive (getD set j d)
+    (subst (λ (p : Configuration). configurationBefore p (getD set j d) ≡ true) e (ascends-places configurationOrder set asc i j d h l))
+
+-- the place of the i-th member of an ascending set is i
+pub place-of-member : (set : List Configuration) → Ascends configurationBefore set → (d : Configuration) (i : ℕ) → i < length set
+    → placeOf set (getD set i d) ≡ i
+place-of-member set asc d i l =
+    let p : Configuration = getD set i d in
+    let j : ℕ = placeOf set p in
+    let k : j < length set = placeOf-lt set p (getD-in set i d l) in
+    go j k (getD-any set j d p k ∙ placeOf-at set p (getD-in set i d l)) (tested (ltb j i)) (tested (ltb i j))
+  where
+    go : (j : ℕ) → j < length set → getD set j d ≡ getD set i d → Tested (ltb j i) → Tested (ltb i j) → j ≡ i
+    go j b e (passes y) t = absurd (apart set asc d j i (ltb-true j i y) l e)
+    go j b e (fails y) (passes z) = absurd (apart set asc d i j (ltb-true i j z) b (sym e))
+    go j b e (fails y) (fails z) = omega (arith, ltb-false j i y, ltb-false i j z)

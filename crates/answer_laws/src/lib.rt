@@ -1,0 +1,1 @@
+// How the bytes of an answer are read back: laws. No functions.

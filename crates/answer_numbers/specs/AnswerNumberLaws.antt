@@ -1,0 +1,64 @@
+-- The numbers of the library's answer are those of the outcome; no refusal has the number 0.
+use mathlib.Core.Path.{_≡_, refl, sym, ap, _∙_}
+use mathlib.Core.List.{List, [], _∷_}
+use Prim.Native.Nat.{ℕ, _≤_}
+use native.Mathlib.Omega.{arith}
+use Rattle.comparison.specs.CallLimits.{Limits}
+use Rattle.comparison.specs.Report.{Verdict, SAME, DIFF, reportLength}
+use Rattle.comparison.specs.Frame.{reported, refusal}
+use Rattle.comparison.specs.Call.{Compares, compare, compareWith}
+use Rattle.comparison.specs.Promise.{Refuses, by-sheet, short-work, large-set, short-answer}
+use Rattle.comparison_laws.specs.CallTheorem.{refuses-exactly}
+use Rattle.answers.specs.declared.Reported.{Reported}
+use Rattle.answers.specs.declared.Answer.{Answer}
+use Rattle.answers.specs.declared.Answer.the-variants.{Report, Refused}
+use Rattle.answers.specs.Returned.{isSame, returned}
+use Rattle.compare_call.specs.Compared.{Compared}
+use Rattle.sheet_laws.specs.RefusalNumbers.{number-low}
+use Rattle.answer_numbers.specs.AnswerNumbers.{outcomeNumber, outcomeNumbers, verdictNumber, Handed, sameNumber, answerNumber, answerNumbers}
+
+verdict-is : (v : Verdict) → sameNumber (isSame v) ≡ verdictNumber v
+verdict-is SAME = refl
+verdict-is DIFF = refl
+
+number-is : (o : Compares) → answerNumber (returned o) ≡ outcomeNumber o
+number-is (reported r) = refl
+number-is (refusal number place) = refl
+
+numbers-are : (o : Compares) → answerNumbers (returned o) ≡ outcomeNumbers o
+numbers-are (reported r) =
+    ap (λ (k : ℕ). k ∷ r .round ∷ r .leftPlace ∷ r .rightPlace ∷ reportLength r ∷ 0 ∷ []) (verdict-is (r .verdict))
+numbers-are (refusal number place) = refl
+
+-- the numbers of either answer
+pub report-numbers : {r : Answer} {x : Reported} {k : ℕ} → r ≡ Report x → k ≡ sameNumber (x .same)
+    → _≡_ {A = List ℕ} (k ∷ x .round ∷ x .left ∷ x .right ∷ x .length ∷ 0 ∷ []) (answerNumbers r)
+report-numbers {r} {x} {k} e h =
+    ap (λ (j : ℕ). j ∷ x .round ∷ x .left ∷ x .right ∷ x .length ∷ 0 ∷ []) h ∙ ap answerNumbers (sym e)
+
+pub refusal-numbers : {r : Answer} {number place : ℕ} → r ≡ Refused number place
+    → _≡_ {A = List ℕ} (0 ∷ 0 ∷ 0 ∷ 0 ∷ 0 ∷ place ∷ []) (answerNumbers r)
+refusal-numbers e = ap answerNumbers (sym e)
+
+-- what the call left, with the numbers of its answer
+pub call-handed : {o : Compares} {v before w after : List ℕ} {r : Answer} {number : ℕ} {numbers : List ℕ} → Compared o v before w after r
+    → number ≡ answerNumber r → numbers ≡ answerNumbers r → Handed o v before w after numbers number
+call-handed {o} c n ns =
+    record {
+      returns = n ∙ ap answerNumber (c .answers) ∙ number-is o;
+      result = ns ∙ ap answerNumbers (c .answers) ∙ numbers-are o;
+      bytes = c .bytes;
+      works = c .works;
+    }
+
+above : (l : Limits) (bytes : List ℕ) (left right work answer number place : ℕ) → Refuses l bytes left right work answer number place → 1 ≤ number
+above l bytes left right work answer number place (by-sheet e) = number-low bytes left right number place e .above
+above l bytes left right work answer _ _ (short-work sheet end r h) = omega arith
+above l bytes left right work answer _ _ (large-set sheet end r h p) = omega arith
+above l bytes left right work answer _ _ (short-answer sheet end r h p k) = omega arith
+
+-- so 0 is returned for a report alone
+pub refusal-above : (l : Limits) (bytes : List ℕ) (left right work answer number place : ℕ)
+    → compareWith l bytes left right work answer ≡ refusal number place → 1 ≤ number
+refusal-above l bytes left right work answer number place e =
+    above l bytes left right work answer number place (refuses-exactly l bytes left right work answer number place .0 e)

@@ -1,0 +1,2 @@
+pub mod StoredParts
+pub mod StoredPartLaws

@@ -1,0 +1,76 @@
+-- The seeds are the two starts, so that the set is the one that grows from them.
+use borrow.Author.Needs.{needs}
+use mathlib.Core.Path.{subst}
+use mathlib.Core.List.{List}
+use native.Mathlib.Omega.{arith}
+use Rattle.sheets.specs.Sheet as spec
+use Rattle.sheet_types.specs.HeldSheet.{sheetOf}
+use Rattle.found_set.specs.FoundSet.{limitsOf}
+use Rattle.call_seeds.specs.ChoiceLaws.{seeds-are, seeds-of-sheet, seeds-few}
+use Rattle.call_frame.specs.Begun.{BegunAs}
+use Rattle.call_frame.specs.BegunLaws.{starts-are}
+use Rattle.call_frame.proofs.begin_choice.Statement.{statement}
+use Rattle.call_frame.proofs.begin_choice.Tie as tie
+
+start-at-requires : tie.Need-start-at-requires
+start-at-requires c κs =
+    let choice = c .before .before .pre .1 in
+    omega (arith, choice .left-start, choice .few-starts)
+
+start-at-requires-2 : tie.Need-start-at-requires-2
+start-at-requires-2 c κs =
+    let choice = c .before .before .before .pre .1 in
+    omega (arith, choice .right-start, choice .few-starts)
+
+chosen-seeds-requires : tie.Need-chosen-seeds-requires
+chosen-seeds-requires c κs =
+    let choice = c .before .before .before .before .pre .1 in
+    (omega (arith, choice .left-start, choice .few-starts), omega (arith, choice .right-start, choice .few-starts))
+
+begin-set-requires : tie.Need-begin-set-requires
+begin-set-requires c κs =
+    let start = c .before .before .before .before .before .before in
+    let args = start .args in
+    let choice = start .pre .1 in
+    let seeds = c .before .chosen-seeds in (
+      start .pre .0,
+      choice .admissible,
+      choice .opened,
+      record {
+        few = omega arith;
+        of-sheet = seeds-of-sheet (args .sheet) (args .left) (args .right) choice (seeds .result) (seeds .ensures);
+        threads = seeds-few (args .sheet) (args .left) (args .right) choice (seeds .result) (seeds .ensures);
+      },
+    )
+
+same-length : tie.Need-same-length
+same-length c = search needs
+
+returns : tie.Need-returns
+returns c =
+    let start = c .before .before .before .before .before .before .before .before .before in
+    let args = start .args in
+    let choice = start .pre .1 in
+    let seeds = c .before .before .before .before .chosen-seeds in
+    let begin = c .before .before .begin-set in
+    let left = c .before .before .before .before .before .before .start-at in
+    let right = c .before .before .before .before .before .start-at2 in
+    record {
+      begun =
+          subst (λ (s : List spec.Configuration). BegunAs (limitsOf (args .caps)) (sheetOf (args .sheet)) s (args .work .now) (begin .last .0) (begin .result))
+          (seeds-are (args .sheet) (args .left) (args .right) choice (seeds .result) (seeds .ensures)) (begin .ensures);
+      starts =
+          starts-are (args .sheet) (args .left) (args .right) choice
+          (record { begun = begin .result; left = left .result; right = right .result }) (left .ensures) (right .ensures);
+    }
+
+pub begin-choice-spec : {M : Type 1} → statement M
+begin-choice-spec =
+    tie.close
+    (tie.spec
+    start-at-requires
+    start-at-requires-2
+    chosen-seeds-requires
+    begin-set-requires
+    same-length
+    returns)

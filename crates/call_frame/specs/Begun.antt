@@ -1,0 +1,56 @@
+-- What a call has once its set was asked for: the set, whole and in order in the work slice, or a refusal.
+use mathlib.Core.Path.{_≡_}
+use mathlib.Core.List.{List}
+use Prim.Native.Nat.{ℕ, _≤_, _<_}
+use lib.ListN.{length}
+use Rattle.sheets.specs.SheetLimits.{maxThreads}
+use Rattle.sheets.specs.Refusals.{largeSet, shortWork}
+use Rattle.sheets.specs.Sheet.{Configuration, Sheet}
+use Rattle.sheets.specs.Reading.{got, refused, readChoice}
+use Rattle.comparison.specs.CallLimits.{Limits}
+use Rattle.comparison.specs.Frame.{start, cleared}
+use Rattle.comparison.specs.Promise.{PassesLimit, startsOf}
+use Rattle.work_layout.specs.WorkLayout.{workEnd}
+use Rattle.sheet_types.specs.HeldSheet.{configuration}
+use Rattle.found_set.specs.FoundSet.{SetWhole}
+use Rattle.call_frame.specs.declared.Begun.{Begun}
+use Rattle.call_frame.specs.declared.Begun.the-variants.{Set, Refused}
+use Rattle.call_frame.specs.declared.Started.{Started}
+
+-- The work slice v, which is long enough, became w: the set of the seeds passes no limit and stands there whole.
+pub record BegunSet (l : Limits) (sheet : Sheet) (seeds : List Configuration) (v w : List ℕ) (n m : ℕ) : Type 0 where
+  pub long : workEnd ≤ length v
+  pub whole : SetWhole sheet l seeds v w n m
+
+-- Refused by the state: the work slice is too short, and nothing changed; or the set itself passes a limit, and it is cleared.
+pub data BegunRefused (l : Limits) (sheet : Sheet) (seeds : List Configuration) (v w : List ℕ) : ℕ → ℕ → Type 0 where
+  too-short : length v < workEnd → w ≡ v → BegunRefused l sheet seeds v w shortWork 0
+  too-large : workEnd ≤ length v → PassesLimit sheet l seeds → w ≡ cleared v → BegunRefused l sheet seeds v w largeSet 0
+
+-- by the answer
+abbrev pub BegunAs : Limits → Sheet → List Configuration → List ℕ → List ℕ → Begun → Type 0
+BegunAs l sheet seeds v w (Set n m) = BegunSet l sheet seeds v w n m
+BegunAs l sheet seeds v w (Refused number place) = BegunRefused l sheet seeds v w number place
+
+-- A refusal as reading gives it, with nothing changed, or what is had of the sheet that was read and its two chosen starts.
+pub data SetBegun (l : Limits) (bytes : List ℕ) (left right : ℕ) (v w : List ℕ) : Begun → Type 0 where
+  by-sheet : {number place : ℕ} → readChoice bytes left right ≡ refused number place → w ≡ v
+      → SetBegun l bytes left right v w (Refused number place)
+  by-set : {r : Begun} (sheet : Sheet) (end : ℕ) → readChoice bytes left right ≡ got sheet end
+      → BegunAs l sheet (startsOf sheet left right) v w r → SetBegun l bytes left right v w r
+
+-- ---- with the starts beside it
+-- the two configurations are these starts of the sheet, and have few threads
+pub record StartsAre (sheet : Sheet) (left right : ℕ) (r : Started) : Type 0 where
+  pub left-is : configuration (r .left) ≡ start sheet left
+  pub right-is : configuration (r .right) ≡ start sheet right
+  pub left-few : r .left .count ≤ maxThreads
+  pub right-few : r .right .count ≤ maxThreads
+
+pub record ChoiceBegun (l : Limits) (sheet : Sheet) (left right : ℕ) (v w : List ℕ) (r : Started) : Type 0 where
+  pub begun : BegunAs l sheet (startsOf sheet left right) v w (r .begun)
+  pub starts : StartsAre sheet left right r
+
+pub record PairBegun (l : Limits) (bytes : List ℕ) (left right : ℕ) (v w : List ℕ) (r : Started) : Type 0 where
+  pub begun : SetBegun l bytes left right v w (r .begun)
+  pub starts : (sheet : Sheet) (end : ℕ) → readChoice bytes left right ≡ got sheet end → StartsAre sheet left right r

@@ -1,0 +1,113 @@
+// What every call begins with: the sheet read, starts chosen, the work slice long enough, and the set of the starts worked out in
+// it. A call goes on from the set that stands there, and clears the work slice at the end.
+use call_seeds::chosen_seeds;
+use call_seeds::document_caps;
+use call_seeds::start_at;
+use collected_moves::Caps;
+use found_set::Found;
+use sheet_types::Configuration;
+use sheet_types::Section;
+use sheet_types::Sheet;
+use work_layout::WORK_END;
+ghost use mathlib.Core.Path.{_≡_};
+ghost use Rattle.node_opening.specs.OpenedNodes.{OpenedTable};
+ghost use Rattle.sheets.specs.WellFormed.{Admissible};
+ghost use Rattle.sheet_types.specs.HeldSheet.{startsIn, sheetOf, nodesIn};
+ghost use Rattle.comparison.specs.CallLimits.{limits};
+ghost use Rattle.found_set.specs.FoundSet.{limitsOf, CapsFit, SeedsFit};
+ghost use Rattle.call_seeds.specs.Choice.{ChoiceHeld};
+ghost use Rattle.call_frame.specs.Begun.{BegunAs, SetBegun, ChoiceBegun, PairBegun};
+
+// The numbers of members and of moves of the set that stands in the work slice, or the refusal.
+pub enum Begun {
+    Set(usize, usize),
+    Refused(u8, usize),
+}
+
+// The same with the two starts that were chosen.
+pub struct Started {
+    pub begun: Begun,
+    pub left: Configuration,
+    pub right: Configuration,
+}
+
+// The set that grows from the first k seeds of a sheet that is held; 23 where the work slice is too short, 21 where the set passes
+// a cap, and then the work slice is cleared.
+pub fn begin_set(
+    work: &mut [u32],
+    sheet: Sheet,
+    seeds: [Configuration; 16],
+    k: usize,
+    caps: Caps,
+) -> Begun
+    requires { ⌜ CapsFit caps × Admissible (sheetOf sheet)
+        × OpenedTable (nodesIn (sheet .nodes) (sheet .«node_count»)) (sheet .opened) × SeedsFit sheet seeds k ⌝ }
+    ensures { λ r. ⌜ BegunAs (limitsOf caps) (sheetOf sheet) (startsIn seeds k) (now (work .entry)) (now (work .exit)) r ⌝ }
+{
+    if work.len() < WORK_END {
+        return Begun::Refused(refusals::SHORT_WORK, 0);
+    }
+    let found = found_set::find_set(work, sheet, seeds, k, caps);
+    let Found::Whole(n, m) = found else {
+        work_layout::clear_work(work);
+        return Begun::Refused(refusals::LARGE_SET, 0);
+    };
+    Begun::Set(n, m)
+}
+
+// The set that grows from two starts of a sheet that is held.
+fn begin_choice(work: &mut [u32], sheet: Sheet, left: usize, right: usize, caps: Caps) -> Started
+    requires { ⌜ CapsFit caps × ChoiceHeld sheet left right ⌝ }
+    ensures { λ r. ⌜ ChoiceBegun (limitsOf caps) (sheetOf sheet) left right (now (work .entry)) (now (work .exit)) r ⌝ }
+{
+    let starts = sheet.starts;
+    let p = start_at(starts, left);
+    let q = start_at(starts, right);
+    let seeds = chosen_seeds(starts, left, right);
+    let begun = begin_set(work, sheet, seeds, 2, caps);
+    Started {
+        begun,
+        left: p,
+        right: q,
+    }
+}
+
+// A refusal by the sheet or the choice, with no starts.
+fn refused(number: u8, place: usize) -> Started
+    ensures { λ r. ⌜ r .begun ≡ Begun.Refused number place ⌝ }
+{
+    let none = Configuration {
+        store: 0,
+        count: 0,
+        threads: [0; 8],
+    };
+    Started {
+        begun: Begun::Refused(number, place),
+        left: none,
+        right: none,
+    }
+}
+
+// The set that grows from two starts of the sheet that the bytes are, within caps.
+pub fn begin_pair(sheet: &[u8], left: usize, right: usize, work: &mut [u32], caps: Caps) -> Started
+    requires { ⌜ CapsFit caps ⌝ }
+    ensures { λ r. ⌜ PairBegun (limitsOf caps) (now (sheet .entry)) left right (now (work .entry)) (now (work .exit)) r ⌝ }
+{
+    let read = sheet_reader::read_choice(sheet, left, right);
+    let section = read.answer;
+    match section {
+        Section::Refused(number, place) => refused(number, place),
+        Section::Got(_, _) => {
+            let held = read.sheet;
+            begin_choice(work, held, left, right, caps)
+        }
+    }
+}
+
+// The public call for a set: that of two starts of a sheet, within document 01's limits, left in the work slice.
+pub fn set_of_choice(sheet: &[u8], left: usize, right: usize, work: &mut [u32]) -> Begun
+    ensures { λ r. ⌜ SetBegun limits (now (sheet .entry)) left right (now (work .entry)) (now (work .exit)) r ⌝ }
+{
+    let started = begin_pair(sheet, left, right, work, document_caps());
+    started.begun
+}

@@ -1,0 +1,107 @@
+-- What follows of a choice that was read: the sheet is well formed, and both starts are configurations of it with few threads.
+use mathlib.Core.Path.{_≡_, refl, sym, ap, ap₂, _∙_, subst}
+use mathlib.Core.List.{List, [], _∷_}
+use Prim.Native.Nat.{ℕ, zero, suc, _≤_, _<_}
+use native.Mathlib.Omega.{arith}
+use lib.ListN.{length, getD, set, length-set}
+use lib.Seq.{getD-set-same, getD-set-other}
+use Rattle.list_laws.specs.Tabulate.{tabulate, tabulate-length, tabulate-at}
+use Rattle.list_laws.specs.ListPlaces.{getD-in, getD-any}
+use Rattle.sheets.specs.SheetLimits.{maxThreads}
+use Rattle.sheets.specs.Sheet as spec
+use Rattle.sheets.specs.WellFormed.{Admissible, OfSheet}
+use Rattle.sheets.specs.Reading.{got, readChoice}
+use Rattle.sheet_laws.specs.ReadingLaws.{ChoiceRead, choice-reads, read-admissible}
+use Rattle.sheet_types.specs.HeldSheet.{configuration, noConfiguration, startsIn, sheetOf}
+use Rattle.sheet_types.specs.SectionLaws.{with-got}
+use Rattle.sheet_types.specs.declared.Configuration.{Configuration}
+use Rattle.sheet_types.specs.declared.Section.the-variants.{Got}
+use Rattle.sheet_types.specs.declared.Sheet.{Sheet}
+use Rattle.sheet_types.specs.declared.SheetRead.{SheetRead}
+use Rattle.sheet_reader.specs.SheetFound.{SheetFound}
+use Rattle.comparison.specs.Frame.{start}
+use Rattle.comparison.specs.Promise.{startsOf}
+use Rattle.call_seeds.specs.Choice.{ChoiceHeld, Seeds}
+
+-- as many starts as are held
+starts-count : (sheet : Sheet) → length (sheetOf sheet .starts) ≡ sheet .«start_count»
+starts-count sheet = tabulate-length (λ i. configuration (getD (sheet .starts) i noConfiguration)) (sheet .«start_count»)
+
+-- ---- a choice that was read
+module _ (s : List ℕ) (left right : ℕ) (r : SheetRead) (found : SheetFound (readChoice s left right) r) {n end : ℕ} (a : r .answer ≡ Got n end) where
+  -- the sheet that was read is the one that is held
+  pub choice-is : readChoice s left right ≡ got (sheetOf (r .sheet)) end
+  choice-is = with-got (λ _. sheetOf (r .sheet)) (found .reading) a
+
+  -- it is held with both starts
+  pub choice-held : ChoiceHeld (r .sheet) left right
+  choice-held =
+      let chosen : ChoiceRead s left right (sheetOf (r .sheet)) end = choice-reads s left right (sheetOf (r .sheet)) end choice-is in
+      let well : Admissible (sheetOf (r .sheet)) = read-admissible s (sheetOf (r .sheet)) end (chosen .read) in
+      let held = found .held n end a in
+      record {
+        admissible = well;
+        opened = held .opened;
+        threads = held .threads;
+        left-start = rw (starts-count (r .sheet)) at (chosen .left-start);
+        right-start = rw (starts-count (r .sheet)) at (chosen .right-start);
+        few-starts = rw (starts-count (r .sheet)) at (well .within .few-starts);
+      }
+
+-- ---- a start that is held
+module _ (sheet : Sheet) (k : ℕ) (inside : k < sheet .«start_count») where
+  -- the start of the sheet with this number
+  pub start-is : start (sheetOf sheet) k ≡ configuration (getD (sheet .starts) k noConfiguration)
+  start-is =
+      tabulate-at (λ i. configuration (getD (sheet .starts) i noConfiguration)) (sheet .«start_count») k (record { store = 0; threads = [] }) inside
+
+  -- it is a configuration of the sheet
+  pub start-of-sheet : Admissible (sheetOf sheet) → OfSheet (sheetOf sheet) (configuration (getD (sheet .starts) k noConfiguration))
+  start-of-sheet w =
+      subst (λ (p : spec.Configuration). OfSheet (sheetOf sheet) p) start-is
+      (w .starts-fit (start (sheetOf sheet) k)
+      (getD-in (sheetOf sheet .starts) k (record { store = 0; threads = [] }) (rw (starts-count sheet) inside)))
+
+-- ---- the seeds
+-- the starts stored over the first two places
+pub seeds-stored : (starts : List Configuration) (left right : ℕ) (d : Configuration) → length starts ≡ 16 → left < 16 → right < 16
+    → Seeds starts left right (set (set starts 0 (getD starts left d)) 1 (getD starts right d))
+seeds-stored starts left right d long l r =
+    let p : Configuration = getD starts left d in
+    let q : Configuration = getD starts right d in
+    record {
+      first =
+          getD-set-other (set starts 0 p) 1 0 q noConfiguration (omega arith)
+          ∙ getD-set-same starts 0 p noConfiguration (omega arith)
+          ∙ getD-any starts left d noConfiguration (omega arith);
+      second =
+          getD-set-same (set starts 0 p) 1 q noConfiguration (omega (arith, length-set starts 0 p))
+          ∙ getD-any starts right d noConfiguration (omega arith);
+    }
+
+two-starts : (seeds : List Configuration)
+    → startsIn seeds 2 ≡ configuration (getD seeds 0 noConfiguration) ∷ configuration (getD seeds 1 noConfiguration) ∷ []
+unfolding tabulate
+two-starts seeds = refl
+
+module _ (sheet : Sheet) (left right : ℕ) (choice : ChoiceHeld sheet left right) (seeds : List Configuration)
+    (are : Seeds (sheet .starts) left right seeds) where
+  -- the first two seeds are the starts of the comparison
+  pub seeds-are : startsIn seeds 2 ≡ startsOf (sheetOf sheet) left right
+  seeds-are =
+      two-starts seeds
+      ∙ ap₂ (λ (p q : spec.Configuration). p ∷ q ∷ [])
+      (ap configuration (are .first) ∙ sym (start-is sheet left (choice .left-start)))
+      (ap configuration (are .second) ∙ sym (start-is sheet right (choice .right-start)))
+
+  -- each is a configuration of the sheet
+  pub seeds-of-sheet : (i : ℕ) → i < 2 → OfSheet (sheetOf sheet) (configuration (getD seeds i noConfiguration))
+  seeds-of-sheet zero l = rw (are .first) (start-of-sheet sheet left (choice .left-start) (choice .admissible))
+  seeds-of-sheet (suc zero) l = rw (are .second) (start-of-sheet sheet right (choice .right-start) (choice .admissible))
+  seeds-of-sheet (suc (suc i)) l = absurd (omega arith)
+
+  -- and has few threads
+  pub seeds-few : (i : ℕ) → i < 2 → getD seeds i noConfiguration .count ≤ maxThreads
+  seeds-few zero l = rw (are .first) (choice .threads .at left (choice .left-start))
+  seeds-few (suc zero) l = rw (are .second) (choice .threads .at right (choice .right-start))
+  seeds-few (suc (suc i)) l = absurd (omega arith)

@@ -1,0 +1,45 @@
+// Where a call begins: the starts that are its seeds, and document 01's limits as caps.
+use collected_moves::Caps;
+use sheet_types::Configuration;
+use sheet_types::Sheet;
+use work_layout::MEMBER_ROOM;
+use work_layout::MOVE_ROOM;
+ghost use mathlib.Core.Path.{_≡_};
+ghost use Prim.Native.Nat.{_<_};
+ghost use lib.ListN.{getD};
+ghost use Rattle.sheet_types.specs.HeldSheet.{noConfiguration};
+ghost use Rattle.comparison.specs.CallLimits.{limits};
+ghost use Rattle.found_set.specs.FoundSet.{limitsOf, CapsFit};
+ghost use Rattle.call_seeds.specs.Choice.{Seeds};
+
+// The start with this number.
+pub fn start_at(starts: [Configuration; 16], k: usize) -> Configuration
+    requires { ⌜ k < 16 ⌝ }
+    ensures { λ r. ⌜ r ≡ getD starts k noConfiguration ⌝ }
+{
+    starts[k]
+}
+
+// The chosen starts as the first two seeds.
+pub fn chosen_seeds(starts: [Configuration; 16], left: usize, right: usize) -> [Configuration; 16]
+    requires { ⌜ (left < 16) × (right < 16) ⌝ }
+    ensures { λ r. ⌜ Seeds starts left right r ⌝ }
+{
+    let p = starts[left];
+    let q = starts[right];
+    let mut seeds = starts;
+    seeds[0] = p;
+    seeds[1] = q;
+    seeds
+}
+
+// Document 01's limits.
+pub fn document_caps() -> Caps
+    ensures { λ r. ⌜ (limitsOf r ≡ limits) × CapsFit r ⌝ }
+{
+    Caps {
+        members: MEMBER_ROOM,
+        moves: MOVE_ROOM,
+        threads: Sheet::MAX_THREADS as usize,
+    }
+}

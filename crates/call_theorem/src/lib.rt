@@ -1,0 +1,1 @@
+// The comparing call keeps its promise: the proof. No functions.

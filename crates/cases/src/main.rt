@@ -1,0 +1,171 @@
+// Runs a list of cases from standard input. A case names its call: to read the sheet, to work out the set that grows from the two
+// chosen starts, or to compare them. The case's name is written with what the call gives; after a report a line says whether a
+// second checker, which works out document 01's levels over every configuration that the starts reach, finds the same
+// verdict, round and classes. All cases share one work slice, which is not cleared between them.
+use answers::Answer;
+use answers::Reported;
+use call_frame::Begun;
+use case_lines::Call;
+use case_lines::Case;
+use case_lines::Line;
+use case_lines::Parsed;
+use level_check::Checked;
+use level_check::Claim;
+use libc::STDIN_FILENO;
+use libc::STDOUT_FILENO;
+use sheet_types::Configuration;
+use sheet_types::Section;
+use sheet_types::Sheet;
+ghost use mathlib.Core.Path.{_≡_};
+ghost use Prim.Native.Nat.{_≤_};
+ghost use lib.ListN.{length, take};
+ghost use Rattle.case_lines.specs.Lines.{Inside};
+
+const LINE_FEED: u8 = 10;
+
+// Room for a list of cases: 256 KiB, where the list has about 170,000 bytes. What stands beyond is not read.
+fn room() -> [u8; 262144]
+    ensures { λ r. ⌜ 262144 ≡ length r ⌝ }
+{
+    [0; 262144]
+}
+
+// The work slice.
+fn work_room() -> [u32; 16384]
+    ensures { λ r. ⌜ 16384 ≡ length r ⌝ }
+{
+    [0; 16384]
+}
+
+// Writes what reading a sheet and choosing two starts gives.
+fn write_reading(sheet: &[u8], left: usize, right: usize) {
+    let mut out = [0u8; 128];
+    let n = reading_text::reading_line(sheet, left, right, &mut out);
+    io::write_all(STDOUT_FILENO, b" ");
+    io::write_all(STDOUT_FILENO, &out[..n]);
+}
+
+// The line of the set of two starts of a sheet, and its length.
+fn put_set(sheet: &[u8], left: usize, right: usize, work: &mut [u32], out: &mut [u8]) -> usize
+    ensures { λ r. ⌜ (r ≤ length (now (out .exit))) × (r ≡ length (take r (now (out .exit)))) ⌝ }
+{
+    let begun = call_frame::set_of_choice(sheet, left, right, work);
+    match begun {
+        Begun::Set(n, m) => {
+            let sum = set_text::checksum(work, n);
+            set_text::set_line(n, m, sum, out)
+        }
+        Begun::Refused(number, place) => text::refused_line(out, number, place),
+    }
+}
+
+// Writes the set of two starts of a sheet: its counts and checksum, or the refusal.
+fn write_set(sheet: &[u8], left: usize, right: usize, work: &mut [u32]) {
+    let mut out = [0u8; 128];
+    let n = put_set(sheet, left, right, work, &mut out);
+    io::write_all(STDOUT_FILENO, b" ");
+    io::write_all(STDOUT_FILENO, &out[..n]);
+}
+
+// The start with this number, the first where there is none.
+fn start_of(starts: [Configuration; 16], k: usize) -> Configuration {
+    if k < 16 { starts[k] } else { starts[0] }
+}
+
+// What a report claims.
+fn claim_of(reported: Reported) -> Claim {
+    Claim {
+        same: reported.same,
+        round: reported.round,
+        left: reported.left,
+        right: reported.right,
+    }
+}
+
+// A report on two starts of a sheet held to the levels.
+fn check_report(sheet: Sheet, left: usize, right: usize, claim: Claim, answer: &[u8]) -> Checked {
+    let starts = sheet.starts;
+    let l = start_of(starts, left);
+    let r = start_of(starts, right);
+    level_check::check(sheet, l, r, claim, answer)
+}
+
+// Writes what the levels say of a report on two starts of a sheet.
+fn write_levels(sheet: &[u8], left: usize, right: usize, reported: Reported, answer: &[u8]) {
+    let mut out = [0u8; 128];
+    let read = sheet_reader::read_choice(sheet, left, right);
+    let held = read.sheet;
+    let checked = check_report(held, left, right, claim_of(reported), answer);
+    let n = level_text::checked_line(checked, &mut out);
+    io::write_all(STDOUT_FILENO, &out[..n]);
+}
+
+// Writes the report on two starts of a sheet, or the refusal, and what the levels say of a report.
+fn write_comparison(sheet: &[u8], left: usize, right: usize, work: &mut [u32]) {
+    let mut answer = [0u8; 10237];
+    let mut out = [0u8; 65536];
+    let r = compare_call::compare(sheet, left, right, &mut answer, work);
+    let k = outcome_text::outcome_text(r, &answer, &mut out);
+    io::write_all(STDOUT_FILENO, b"\n");
+    io::write_all(STDOUT_FILENO, &out[..k]);
+    match r {
+        Answer::Report(x) => write_levels(sheet, left, right, x, &answer),
+        Answer::Refused(_, _) => {}
+    }
+}
+
+// Writes what a call gives for two starts of a sheet.
+fn write_call(call: Call, sheet: &[u8], left: usize, right: usize, work: &mut [u32]) {
+    match call {
+        Call::Read => write_reading(sheet, left, right),
+        Call::Set => write_set(sheet, left, right, work),
+        Call::Compare => write_comparison(sheet, left, right, work),
+    }
+}
+
+fn write_malformed() {
+    io::write_all(STDOUT_FILENO, b"MALFORMED\n");
+}
+
+// Writes a case's name, and what its call gives.
+fn run_case(line: &[u8], case: Case, work: &mut [u32])
+    requires { ⌜ Inside (now line) case ⌝ }
+{
+    let mut sheet = [0u8; 1024];
+    let name = case.name;
+    let until = case.until;
+    let digits = case.digits;
+    let call = case.call;
+    let parsed = case_lines::decode(&line[digits..], &mut sheet);
+    let Parsed::Is(n) = parsed else {
+        write_malformed();
+        return;
+    };
+    io::write_all(STDOUT_FILENO, &line[name..until]);
+    write_call(call, &sheet[..n], case.left, case.right, work);
+}
+
+fn run_line(line: &[u8], work: &mut [u32]) {
+    let held = case_lines::line_of(line);
+    match held {
+        Line::Passed => {}
+        Line::Malformed => write_malformed(),
+        Line::Holds(case) => run_case(line, case, work),
+    }
+}
+
+fn run(text: &[u8], work: &mut [u32]) {
+    let mut at: usize = 0;
+    while at < text.len() {
+        let end = case_lines::end_from(text, at, LINE_FEED);
+        run_line(&text[at..end], work);
+        at = case_lines::after_from(text, at, LINE_FEED);
+    }
+}
+
+fn main() {
+    let mut text = room();
+    let mut work = work_room();
+    let n = io::read_full(STDIN_FILENO, &mut text);
+    run(&text[..n], &mut work);
+}

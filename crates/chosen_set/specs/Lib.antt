@@ -1,4 +1,0 @@
-pub mod Choice
-pub mod ChoiceLaws
-pub mod ChosenSet
-pub mod ChosenLaws

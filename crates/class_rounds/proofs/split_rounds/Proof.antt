@@ -1,0 +1,244 @@
+-- `split_rounds` goes on while a round splits a class, so each round but the last has a birth; there are no more classes than
+-- members. In each round a member is listed or at rest.
+use mathlib.Core.List.{List}
+use lib.ListN.{length, replicate}
+use Rattle.class_splits.specs.ClassedPlaces.{classed-count}
+use Rattle.class_rounds.specs.RoundsDone.{Ready, Refining, refining-first, refining-shape, refining-classed, refining-lines, refining-next, refining-last}
+use borrow.Author.Needs.{needs}
+use native.Mathlib.Omega.{arith}
+use Prim.Native.Nat.{ℕ, _-_}
+use mathlib.Core.Path.{_≡_, refl}
+use Rattle.class_rounds.proofs.split_rounds.Statement.{statement}
+use Rattle.class_rounds.proofs.split_rounds.Tie as tie
+
+-- the set that has no member
+abbrev nobody : List ℕ
+nobody = replicate 8 0
+
+abbrev Inv-loop : tie.InvT-loop
+Inv-loop w₀ sets₀ width n m count₀ list₀ k₀ round₀ w sets count list k round =
+    (length w ≡ length w₀) × (length sets ≡ length sets₀)
+    × ((v : List ℕ) → Ready v n m → Refining v n m w₀ sets₀ width list₀ k₀ round₀ count₀ → Refining v n m w sets width list k round count)
+
+abbrev μ-loop : tie.MeasureT-loop
+μ-loop w₀ sets₀ width n m count₀ list₀ k₀ round₀ w sets count list k round = n - count
+
+forget-dominators-requires : tie.Need-forget-dominators-requires Inv-loop μ-loop
+forget-dominators-requires c κs = let H = c .before .before .before .pre .0 .ready .held in (H .few .1, H .long)
+
+found-classes-requires : tie.Need-found-classes-requires Inv-loop μ-loop
+found-classes-requires c κs =
+    let H = c .before .before .before .before .before .before .before .pre .0 .ready .held in
+    (H .few .0, omega (arith, H .long, c .before .before .before .forget-dominators .ensures .outside .long))
+
+choose-rest-requires : tie.Need-choose-rest-requires Inv-loop μ-loop
+choose-rest-requires c κs =
+    let H = c .before .before .before .before .before .before .before .before .before .before .before .before .pre .0 .ready .held in
+    let d = c .before .before .before .before .found-classes in (
+      H .few .0,
+      omega (arith, H .long, c .before .before .before .before .before .before .before .before .forget-dominators .ensures .outside .long, d .ensures .only .long),
+      (λ i l. omega (arith, d .ensures .classed .known i l, classed-count (d .ensures .classed), H .few .0)),
+    )
+
+slice-aggregate-list-all : tie.Need-slice-aggregate-list-all Inv-loop μ-loop
+slice-aggregate-list-all c = search needs
+
+list-all-requires : tie.Need-list-all-requires Inv-loop μ-loop
+list-all-requires c κs =
+    let H = c .before .before .before .before .before .before .before .before .before .before .before .before .before .before .before .before .pre .0 .ready .held in
+    (H .few .0, omega (arith, H .few .0))
+
+loop-holds : tie.Need-loop-holds Inv-loop μ-loop
+loop-holds c = (refl, refl, (λ v Y G. G))
+
+line-listed-requires : tie.Need-line-listed-requires Inv-loop μ-loop
+line-listed-requires c κs =
+    let b = c .before .before .before .before .before .before .before .before .before .before .before .before .before .before .before .before .before .before .before .before .before .before in
+    let g = b .args in
+    let v : List ℕ = g .work .now in
+    let f = c .before .before .before .before .before .before .before .before .before .before .before .before .before .before .before .before .before .before .forget-dominators in
+    let d = c .before .before .before .before .before .before .before .before .before .before .before .before .before .before .found-classes in
+    let h = c .before .before .before .before .before .before .before .before .before .choose-rest in
+    let a = c .before .before .before .before .before .list-all in
+    let l = c .before .before .before .loop in
+    let G : Refining v (g .n) (g .m) (l .work) (l .sets) (g .width) (l .list) (l .k) (l .round) (l .count) =
+    l .inv .2 v (b .pre .0) (refining-first v (g .n) (g .m) (f .last .0) (f .ensures) (d .last .0) (d .result) (d .ensures) (h .last .0) nobody (h .ensures)
+    (g .sets .now) (g .width) (a .last .0) (a .ensures) (b .pre .0)) in
+    let H = b .pre .0 .ready .held in (
+      refining-shape v (g .n) (g .m) (l .work) (l .sets) (g .width) (l .list) (l .k) (l .round) (l .count) G (b .pre .0),
+      omega (arith, G .listed .few, H .few .0),
+      G .listed .below,
+      b .pre .2,
+      b .pre .1,
+      omega (arith, b .pre .3, l .inv .1),
+    )
+
+add-split-listed : tie.Need-add-split-listed Inv-loop μ-loop
+add-split-listed c =
+    let b = c .before .before .before .before .before .before .before .before .before .before .before .before .before .before .before .before .before .before .before .before .before .before .before .before .before .before .before .before .before in
+    let g = b .args in
+    let v : List ℕ = g .work .now in
+    let f = c .before .before .before .before .before .before .before .before .before .before .before .before .before .before .before .before .before .before .before .before .before .before .before .before .before .forget-dominators in
+    let d = c .before .before .before .before .before .before .before .before .before .before .before .before .before .before .before .before .before .before .before .before .before .found-classes in
+    let h = c .before .before .before .before .before .before .before .before .before .before .before .before .before .before .before .before .choose-rest in
+    let a = c .before .before .before .before .before .before .before .before .before .before .before .before .list-all in
+    let l = c .before .before .before .before .before .before .before .before .before .before .loop in
+    let G : Refining v (g .n) (g .m) (l .work) (l .sets) (g .width) (l .list) (l .k) (l .round) (l .count) =
+    l .inv .2 v (b .pre .0) (refining-first v (g .n) (g .m) (f .last .0) (f .ensures) (d .last .0) (d .result) (d .ensures) (h .last .0) nobody (h .ensures)
+    (g .sets .now) (g .width) (a .last .0) (a .ensures) (b .pre .0)) in
+    omega (arith, G .early, classed-count (G .classed), b .pre .0 .ready .held .few)
+
+split-listed-requires : tie.Need-split-listed-requires Inv-loop μ-loop
+split-listed-requires c κs =
+    let b = c .before .before .before .before .before .before .before .before .before .before .before .before .before .before .before .before .before .before .before .before .before .before .before .before .before .before .before .before .before in
+    let g = b .args in
+    let v : List ℕ = g .work .now in
+    let f = c .before .before .before .before .before .before .before .before .before .before .before .before .before .before .before .before .before .before .before .before .before .before .before .before .before .forget-dominators in
+    let d = c .before .before .before .before .before .before .before .before .before .before .before .before .before .before .before .before .before .before .before .before .before .found-classes in
+    let h = c .before .before .before .before .before .before .before .before .before .before .before .before .before .before .before .before .choose-rest in
+    let a = c .before .before .before .before .before .before .before .before .before .before .before .before .list-all in
+    let l = c .before .before .before .before .before .before .before .before .before .before .loop in
+    let G : Refining v (g .n) (g .m) (l .work) (l .sets) (g .width) (l .list) (l .k) (l .round) (l .count) =
+    l .inv .2 v (b .pre .0) (refining-first v (g .n) (g .m) (f .last .0) (f .ensures) (d .last .0) (d .result) (d .ensures) (h .last .0) nobody (h .ensures)
+    (g .sets .now) (g .width) (a .last .0) (a .ensures) (b .pre .0)) in
+    let u = c .before .before .before .before .before .before .line-listed in
+    let H = b .pre .0 .ready .held in (
+      H .few .0,
+      omega (arith, H .long, G .same-set .long, u .ensures .only .long),
+      omega (arith, G .early, classed-count (G .classed), H .few .0),
+      refining-classed v (g .n) (g .m) (l .work) (l .sets) (g .width) (l .list) (l .k) (l .round) (l .count) G (u .last .0) (u .last .1 .0) (u .ensures) (b .pre .0),
+      refining-lines v (g .n) (g .m) (l .work) (l .sets) (g .width) (l .list) (l .k) (l .round) (l .count) G (u .last .0) (u .last .1 .0) (u .ensures) (b .pre .0),
+      G .listed,
+    )
+
+same-length : tie.Need-same-length Inv-loop μ-loop
+same-length c =
+    let f = c .before .before .before .before .before .before .before .before .before .before .before .before .before .before .before .before .before .before .before .before .before .before .before .before .before .before .before .before .before .forget-dominators in
+    let d = c .before .before .before .before .before .before .before .before .before .before .before .before .before .before .before .before .before .before .before .before .before .before .before .before .before .found-classes in
+    let h = c .before .before .before .before .before .before .before .before .before .before .before .before .before .before .before .before .before .before .before .before .choose-rest in
+    let u = c .before .before .before .before .before .before .before .before .before .before .line-listed in
+    let s = c .before .before .before .split-listed in
+    omega (
+      arith,
+      f .ensures .outside .long,
+      d .ensures .only .long,
+      h .ensures .only .long,
+      c .before .before .before .before .before .before .before .before .before .before .before .before .before .before .loop .inv .0,
+      u .ensures .only .long,
+      s .ensures .only .long,
+    )
+
+same-length-2 : tie.Need-same-length-2 Inv-loop μ-loop
+same-length-2 c =
+    let u = c .before .before .before .before .before .before .before .before .before .before .line-listed in
+    omega (arith, c .before .before .before .before .before .before .before .before .before .before .before .before .before .before .loop .inv .1, u .ensures .grown .long)
+
+returns : tie.Need-returns Inv-loop μ-loop
+returns c =
+    let b = c .before .before .before .before .before .before .before .before .before .before .before .before .before .before .before .before .before .before .before .before .before .before .before .before .before .before .before .before .before .before .before .before .before in
+    let g = b .args in
+    let v : List ℕ = g .work .now in
+    let f = c .before .before .before .before .before .before .before .before .before .before .before .before .before .before .before .before .before .before .before .before .before .before .before .before .before .before .before .before .before .forget-dominators in
+    let d = c .before .before .before .before .before .before .before .before .before .before .before .before .before .before .before .before .before .before .before .before .before .before .before .before .before .found-classes in
+    let h = c .before .before .before .before .before .before .before .before .before .before .before .before .before .before .before .before .before .before .before .before .choose-rest in
+    let a = c .before .before .before .before .before .before .before .before .before .before .before .before .before .before .before .before .list-all in
+    let l = c .before .before .before .before .before .before .before .before .before .before .before .before .before .before .loop in
+    let G : Refining v (g .n) (g .m) (l .work) (l .sets) (g .width) (l .list) (l .k) (l .round) (l .count) =
+    l .inv .2 v (b .pre .0) (refining-first v (g .n) (g .m) (f .last .0) (f .ensures) (d .last .0) (d .result) (d .ensures) (h .last .0) nobody (h .ensures)
+    (g .sets .now) (g .width) (a .last .0) (a .ensures) (b .pre .0)) in
+    let u = c .before .before .before .before .before .before .before .before .before .before .line-listed in
+    let s = c .before .before .before .split-listed in
+    refining-last v (g .n) (g .m) (l .work) (l .sets) (g .width) (l .list) (l .k) (l .round) (l .count) G (u .last .0) (u .last .1 .0) (u .ensures) (s .last .0) (s .result) (s .ensures) (c .if1 .taken)
+
+list-next-requires : tie.Need-list-next-requires Inv-loop μ-loop
+list-next-requires c κs =
+    let b = c .before .before .before .before .before .before .before .before .before .before .before .before .before .before .before .before .before .before .before .before .before .before .before .before .before .before .before .before .before .before .before .before .before .before .before .before in
+    let g = b .args in
+    let v : List ℕ = g .work .now in
+    let f = c .before .before .before .before .before .before .before .before .before .before .before .before .before .before .before .before .before .before .before .before .before .before .before .before .before .before .before .before .before .before .before .before .forget-dominators in
+    let d = c .before .before .before .before .before .before .before .before .before .before .before .before .before .before .before .before .before .before .before .before .before .before .before .before .before .before .before .before .found-classes in
+    let h = c .before .before .before .before .before .before .before .before .before .before .before .before .before .before .before .before .before .before .before .before .before .before .before .choose-rest in
+    let a = c .before .before .before .before .before .before .before .before .before .before .before .before .before .before .before .before .before .before .before .list-all in
+    let l = c .before .before .before .before .before .before .before .before .before .before .before .before .before .before .before .before .before .loop in
+    let G : Refining v (g .n) (g .m) (l .work) (l .sets) (g .width) (l .list) (l .k) (l .round) (l .count) =
+    l .inv .2 v (b .pre .0) (refining-first v (g .n) (g .m) (f .last .0) (f .ensures) (d .last .0) (d .result) (d .ensures) (h .last .0) nobody (h .ensures)
+    (g .sets .now) (g .width) (a .last .0) (a .ensures) (b .pre .0)) in
+    let u = c .before .before .before .before .before .before .before .before .before .before .before .before .before .line-listed in
+    let s = c .before .before .before .before .before .before .split-listed in
+    let H = b .pre .0 .ready .held in (
+      H .few .0,
+      omega (arith, H .long, G .same-set .long, u .ensures .only .long, s .ensures .only .long),
+      b .pre .1,
+      b .pre .2,
+      omega (arith, b .pre .3, l .inv .1, u .ensures .grown .long),
+      G .listed,
+      (s .result, s .ensures .classed),
+    )
+
+add-round : tie.Need-add-round Inv-loop μ-loop
+add-round c =
+    let b = c .before .before .before .before .before .before .before .before .before .before .before .before .before .before .before .before .before .before .before .before .before .before .before .before .before .before .before .before .before .before .before .before .before .before .before .before .before .before .before in
+    let g = b .args in
+    let v : List ℕ = g .work .now in
+    let f = c .before .before .before .before .before .before .before .before .before .before .before .before .before .before .before .before .before .before .before .before .before .before .before .before .before .before .before .before .before .before .before .before .before .before .before .forget-dominators in
+    let d = c .before .before .before .before .before .before .before .before .before .before .before .before .before .before .before .before .before .before .before .before .before .before .before .before .before .before .before .before .before .before .before .found-classes in
+    let h = c .before .before .before .before .before .before .before .before .before .before .before .before .before .before .before .before .before .before .before .before .before .before .before .before .before .before .choose-rest in
+    let a = c .before .before .before .before .before .before .before .before .before .before .before .before .before .before .before .before .before .before .before .before .before .before .list-all in
+    let l = c .before .before .before .before .before .before .before .before .before .before .before .before .before .before .before .before .before .before .before .before .loop in
+    let G : Refining v (g .n) (g .m) (l .work) (l .sets) (g .width) (l .list) (l .k) (l .round) (l .count) =
+    l .inv .2 v (b .pre .0) (refining-first v (g .n) (g .m) (f .last .0) (f .ensures) (d .last .0) (d .result) (d .ensures) (h .last .0) nobody (h .ensures)
+    (g .sets .now) (g .width) (a .last .0) (a .ensures) (b .pre .0)) in
+    omega (arith, G .early, classed-count (G .classed), b .pre .0 .ready .held .few)
+
+loop-less : tie.Need-loop-less Inv-loop μ-loop
+loop-less c =
+    let b = c .before .before .before .before .before .before .before .before .before .before .before .before .before .before .before .before .before .before .before .before .before .before .before .before .before .before .before .before .before .before .before .before .before .before .before .before .before .before .before in
+    let g = b .args in
+    let v : List ℕ = g .work .now in
+    let f = c .before .before .before .before .before .before .before .before .before .before .before .before .before .before .before .before .before .before .before .before .before .before .before .before .before .before .before .before .before .before .before .before .before .before .before .forget-dominators in
+    let d = c .before .before .before .before .before .before .before .before .before .before .before .before .before .before .before .before .before .before .before .before .before .before .before .before .before .before .before .before .before .before .before .found-classes in
+    let h = c .before .before .before .before .before .before .before .before .before .before .before .before .before .before .before .before .before .before .before .before .before .before .before .before .before .before .choose-rest in
+    let a = c .before .before .before .before .before .before .before .before .before .before .before .before .before .before .before .before .before .before .before .before .before .before .list-all in
+    let l = c .before .before .before .before .before .before .before .before .before .before .before .before .before .before .before .before .before .before .before .before .loop in
+    let G : Refining v (g .n) (g .m) (l .work) (l .sets) (g .width) (l .list) (l .k) (l .round) (l .count) =
+    l .inv .2 v (b .pre .0) (refining-first v (g .n) (g .m) (f .last .0) (f .ensures) (d .last .0) (d .result) (d .ensures) (h .last .0) nobody (h .ensures)
+    (g .sets .now) (g .width) (a .last .0) (a .ensures) (b .pre .0)) in
+    let s = c .before .before .before .before .before .before .before .before .before .split-listed in
+    omega (arith, s .ensures .more, classed-count (s .ensures .classed), c .before .before .before .before .before .before .if1 .left)
+
+loop-again : tie.Need-loop-again Inv-loop μ-loop
+loop-again c =
+    let g = c .before .before .before .before .before .before .before .before .before .before .before .before .before .before .before .before .before .before .before .before .before .before .before .before .before .before .before .before .before .before .before .before .before .before .before .before .before .before .before .args in
+    let l = c .before .before .before .before .before .before .before .before .before .before .before .before .before .before .before .before .before .before .before .before .loop in
+    let u = c .before .before .before .before .before .before .before .before .before .before .before .before .before .before .before .before .line-listed in
+    let s = c .before .before .before .before .before .before .before .before .before .split-listed in
+    let x = c .before .before .list-next in (
+      omega (arith, l .inv .0, u .ensures .only .long, s .ensures .only .long, x .ensures .only .long),
+      omega (arith, l .inv .1, u .ensures .grown .long),
+      (λ v Y G. refining-next v (g .n) (g .m) (l .work) (l .sets) (g .width) (l .list) (l .k) (l .round) (l .count) (l .inv .2 v Y G)
+          (u .last .0) (u .last .1 .0) (u .ensures) (s .last .0) (s .result) (s .ensures) (c .before .before .before .before .before .before .if1 .left)
+          (x .last .0) (x .last .1 .1 .1 .1 .1 .0) (x .result) (x .ensures)),
+    )
+
+pub split-rounds-spec : {M : Type 1} → statement M
+split-rounds-spec =
+    tie.close
+    (tie.spec
+    Inv-loop
+    μ-loop
+    forget-dominators-requires
+    found-classes-requires
+    choose-rest-requires
+    slice-aggregate-list-all
+    list-all-requires
+    loop-holds
+    line-listed-requires
+    add-split-listed
+    split-listed-requires
+    same-length
+    same-length-2
+    returns
+    list-next-requires
+    add-round
+    loop-less
+    loop-again)

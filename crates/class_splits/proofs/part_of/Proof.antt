@@ -1,0 +1,70 @@
+-- `part_of` looks at one part after the other: those passed do not fit.
+use Rattle.class_splits.specs.LineTests.{PartFits}
+use Rattle.class_splits.specs.MemberSplits.{none-more}
+use borrow.Author.Needs.{needs}
+use native.Mathlib.Omega.{arith}
+use Prim.Native.Nat.{ℕ, _-_, _≤_, _<_}
+use Rattle.class_splits.proofs.part_of.Statement.{statement}
+use Rattle.class_splits.proofs.part_of.Tie as tie
+
+abbrev Inv-loop : tie.InvT-loop
+Inv-loop w c i old count k₀ k = (old ≤ k) × (k ≤ count) × ((j : ℕ) → old ≤ j → j < k → PartFits w j c i → ⊥)
+
+abbrev μ-loop : tie.MeasureT-loop
+μ-loop w c i old count k₀ k = count - k
+
+loop-holds : tie.Need-loop-holds Inv-loop μ-loop
+loop-holds c = (omega arith, omega arith, (λ j h l. absurd (omega arith)))
+
+is-part-requires : tie.Need-is-part-requires Inv-loop μ-loop
+is-part-requires c κs =
+    let b = c .before .before .before in
+    (omega arith, b .pre .2, b .pre .3 (c .before .loop .k) (c .loop-test .taken), b .pre .4)
+
+returns : tie.Need-returns Inv-loop μ-loop
+returns c =
+    let l = c .before .before .before .loop in
+    record {
+      within = (l .inv .0, l .inv .1);
+      found = λ h. c .before .is-part .ensures .holds (c .if1 .taken);
+      none = λ e. absurd (omega (arith, c .before .before .loop-test .taken));
+    }
+
+add-k : tie.Need-add-k Inv-loop μ-loop
+add-k c = search needs
+
+loop-less : tie.Need-loop-less Inv-loop μ-loop
+loop-less c = search needs
+
+loop-again : tie.Need-loop-again Inv-loop μ-loop
+loop-again c =
+    let g = c .before .before .before .before .before .args in
+    let l = c .before .before .before .loop in (
+      omega arith,
+      omega arith,
+      none-more (g .work .now) (g .c) (g .i) (g .old) (l .k) (c .before .is-part .result) (l .inv .2) (c .before .is-part .ensures)
+          (c .if1 .left),
+    )
+
+returns-2 : tie.Need-returns-2 Inv-loop μ-loop
+returns-2 c =
+    let l = c .before .loop in
+    record {
+      within = (omega arith, omega arith);
+      found = λ h. absurd (omega arith);
+      none = λ e j h m. l .inv .2 j h (omega arith);
+    }
+
+pub part-of-spec : {M : Type 1} → statement M
+part-of-spec =
+    tie.close
+    (tie.spec
+    Inv-loop
+    μ-loop
+    loop-holds
+    is-part-requires
+    returns
+    add-k
+    loop-less
+    loop-again
+    returns-2)

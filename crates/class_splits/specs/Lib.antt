@@ -1,0 +1,3 @@
+pub mod ClassedPlaces
+pub mod LineTests
+pub mod MemberSplits

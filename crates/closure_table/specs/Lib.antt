@@ -1,0 +1,4 @@
+pub mod ClosureTable
+pub mod FillLaws
+pub mod GatheredConclusions
+pub mod GatheredLaws

@@ -1,4 +1,0 @@
-pub mod ClosureTable
-pub mod FillLaws
-pub mod Gathering
-pub mod GatherLaws

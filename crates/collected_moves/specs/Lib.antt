@@ -1,0 +1,5 @@
+pub mod CollectedMoves
+pub mod CollectedLaws
+pub mod CollectedFrames
+pub mod LowestUnexplored
+pub mod EnteredMoveLaws

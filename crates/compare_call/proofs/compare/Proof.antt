@@ -1,0 +1,36 @@
+-- The call within document 01's limits.
+use borrow.Author.Needs.{needs}
+use mathlib.Core.Path.{subst}
+use lib.ListN.{length}
+use Rattle.comparison.specs.CallLimits.{Limits}
+use Rattle.comparison.specs.Call.{compareWith}
+use Rattle.compare_call.specs.Compared.{Compared}
+use Rattle.compare_call.proofs.compare.Statement.{statement}
+use Rattle.compare_call.proofs.compare.Tie as tie
+
+document-caps-requires : tie.Need-document-caps-requires
+document-caps-requires c κs = search needs
+
+compare-within-requires : tie.Need-compare-within-requires
+compare-within-requires c κs = c .document-caps .ensures .1
+
+same-length : tie.Need-same-length
+same-length c = search needs
+
+same-length-2 : tie.Need-same-length-2
+same-length-2 c = search needs
+
+returns : tie.Need-returns
+returns c =
+    let start = c .before .before .before .before .before .before .before .before .before .before .before in
+    let caps = c .before .before .before .before .before .document-caps in
+    let within = c .before .before .before .before .compare-within in
+    let args = start .args in
+    subst (λ (l : Limits). Compared (compareWith l (args .sheet .now) (args .left) (args .right) (length (args .work .now)) (length (args .answer .now)))
+    (args .work .now) (args .answer .now) (within .last .1 .1 .1 .1 .0) (within .last .1 .1 .1 .0) (within .result))
+    (caps .ensures .0) (within .ensures)
+
+pub compare-spec : {M : Type 1} → statement M
+compare-spec =
+    tie.close
+    (tie.spec document-caps-requires compare-within-requires same-length same-length-2 returns)

@@ -1,3 +1,0 @@
-pub mod RefusalNumbers
-pub mod Compared
-pub mod ComparedLaws

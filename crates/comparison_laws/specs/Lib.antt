@@ -1,0 +1,12 @@
+pub mod SheetMoves
+pub mod ClassLaws
+pub mod CountLaws
+pub mod RoundLaws
+pub mod SetLaws
+pub mod ResultLaws
+pub mod TrailLaws
+pub mod TrailWalk
+pub mod ReportLaws
+pub mod Theorem
+pub mod CallTheorem
+pub mod KnownRows

@@ -1,0 +1,6 @@
+pub mod FoundMembers
+pub mod LowerMoves
+pub mod KeptMoves
+pub mod SliceShapes
+pub mod DominatorSearch
+pub mod ForgottenMoves

@@ -1,0 +1,142 @@
+-- `explore`: what is kept is explored as far as its spans say, the shelf has labels at its store, and each round gives one more member
+-- its span; where no place is left every member has one.
+use mathlib.Core.Path.{ap, _∙_, subst}
+use Prim.Native.Nat.{ℕ, _+_}
+use native.Mathlib.Omega.{arith}
+use borrow.Author.Needs.{needs}
+use lib.ListN.{getD}
+use Rattle.movable_nodes.specs.Movability.{nodesHeld}
+use Rattle.ask_labels.specs.LabelShelf.{Shelved}
+use Rattle.exploration.specs.MemberExplored.{one-on, one-over}
+use Rattle.exploration.specs.ExploredPlaces.{fromLow, exploring-from, low-within}
+use Rattle.exploration.specs.Unexplored.{unexploredBelow, unexplored-less}
+use Rattle.exploration.specs.ExplorationLaws.{shelf-fits, Explores, explores-none, explores-all, explores-over, explores-next}
+use Rattle.exploration.proofs.explore.Statement.{statement}
+use Rattle.exploration.proofs.explore.Tie as tie
+use Rattle.work_layout.specs.WorkLayout.{spansAt}
+
+abbrev Inv-loop : tie.InvT-loop
+Inv-loop w₀ kinds firsts seconds counts threads movables plan run₀ shelf₀ store₀ w run shelf store =
+    Explores (nodesHeld kinds firsts seconds (plan .nodes)) plan w₀ run₀ w run shelf store
+
+abbrev μ-loop : tie.MeasureT-loop
+μ-loop w₀ kinds firsts seconds counts threads movables plan run₀ shelf₀ store₀ w run shelf store = unexploredBelow w 512
+
+loop-holds : tie.Need-loop-holds Inv-loop μ-loop
+loop-holds c =
+    let g = c .before .args in
+    explores-none (nodesHeld (g .kinds .now) (g .firsts .now) (g .seconds .now) (g .plan .nodes)) (g .plan) (g .work .now) (g .s) (c .before .pre .1) 65536
+
+next-place-requires : tie.Need-next-place-requires Inv-loop μ-loop
+next-place-requires c κs =
+    let e = c .before .loop .inv .exploring in
+    (e .collecting .kept, low-within e, e .collecting .long)
+
+same-length : tie.Need-same-length Inv-loop μ-loop
+same-length c = c .before .before .before .loop .inv .outside .long
+
+returns : tie.Need-returns Inv-loop μ-loop
+returns c =
+    let g = c .before .before .before .before .before .args in
+    let l = c .before .before .before .loop in
+    let p = c .before .next-place in
+    explores-all (nodesHeld (g .kinds .now) (g .firsts .now) (g .seconds .now) (g .plan .nodes)) (g .plan) (g .work .now) (g .s) (c .before .before .before .before .before .pre .1)
+    (l .work) (l .run) (l .shelf) (l .store) (l .inv) (p .result) (p .ensures) (c .if1 .taken)
+
+id-at-requires : tie.Need-id-at-requires Inv-loop μ-loop
+id-at-requires c κs = (c .before .before .before .before .loop .inv .exploring .collecting .kept, omega (arith, c .before .before .next-place .ensures .within .1, c .before .if1 .left))
+
+store-of-requires : tie.Need-store-of-requires Inv-loop μ-loop
+store-of-requires c κs = (c .before .before .before .before .before .before .loop .inv .exploring .collecting .kept, c .before .id-at .ensures .1)
+
+cast-d : tie.Need-cast-d Inv-loop μ-loop
+cast-d c = search needs
+
+shelf-for-requires : tie.Need-shelf-for-requires Inv-loop μ-loop
+shelf-for-requires c κs = search needs
+
+explore-member-requires : tie.Need-explore-member-requires Inv-loop μ-loop
+explore-member-requires c κs =
+    let g = c .before .before .before .before .before .before .before .before .before .before .before .args in
+    let l = c .before .before .before .before .before .before .before .before .before .loop in
+    let p = c .before .before .before .before .before .before .before .next-place in
+    let i = c .before .before .before .before .id-at in
+    let d = c .before .before .store-of in (
+      c .before .before .before .before .before .before .before .before .before .before .before .pre .0,
+      exploring-from (l .inv .exploring) (p .ensures),
+      i .ensures .1,
+      ap (λ (n : ℕ). getD (l .work) (spansAt + n) 0) (i .ensures .0)
+          ∙ p .ensures .here (omega (arith, p .ensures .within .1, c .before .before .before .before .before .before .if1 .left)),
+      subst (λ (n : ℕ). Shelved (l .work) (g .plan .facts) n (c .before .shelf-for .result)) (d .ensures)
+          (shelf-fits (l .work) (g .plan .facts) (l .store) (d .result) (l .shelf) (c .before .shelf-for .result) (l .inv .shelved) (c .before .shelf-for .ensures)),
+    )
+
+enum-known-r : tie.Need-enum-known-r Inv-loop μ-loop
+enum-known-r c = search needs
+
+enum-told : tie.Need-enum-told Inv-loop μ-loop
+enum-told c = search needs
+
+same-length-2 : tie.Need-same-length-2 Inv-loop μ-loop
+same-length-2 c = search needs
+
+returns-2 : tie.Need-returns-2 Inv-loop μ-loop
+returns-2 c =
+    let g = c .before .before .before .before .before .before .before .before .before .before .before .before .before .before .before .before .args in
+    let l = c .before .before .before .before .before .before .before .before .before .before .before .before .before .before .loop in
+    let p = c .before .before .before .before .before .before .before .before .before .before .before .before .next-place in
+    let m = c .before .before .before .before .explore-member in
+    let nodes = nodesHeld (g .kinds .now) (g .firsts .now) (g .seconds .now) (g .plan .nodes) in
+    explores-over nodes (g .plan) (g .work .now) (g .s) (c .before .before .before .before .before .before .before .before .before .before .before .before .before .before .before .before .pre .1)
+    (l .work) (l .run) (l .shelf) (l .store) (l .inv) (p .result) (p .ensures) (m .last .0)
+    (one-over nodes (g .plan) (l .work) (fromLow (l .run) (p .result)) (c .before .before .before .before .before .before .before .before .before .id-at .result) (m .last .0) (m .result) (c .enum-told .given .1) (m .ensures))
+
+loop-less : tie.Need-loop-less Inv-loop μ-loop
+loop-less c =
+    let g = c .before .before .before .before .before .before .before .before .before .before .before .before .before .before .before .before .before .args in
+    let l = c .before .before .before .before .before .before .before .before .before .before .before .before .before .before .before .loop in
+    let p = c .before .before .before .before .before .before .before .before .before .before .before .before .before .next-place in
+    let i = c .before .before .before .before .before .before .before .before .before .before .id-at in
+    let m = c .before .before .before .before .before .explore-member in
+    let nodes = nodesHeld (g .kinds .now) (g .firsts .now) (g .seconds .now) (g .plan .nodes) in
+    let e = one-on nodes (g .plan) (l .work) (fromLow (l .run) (p .result)) (i .result) (m .last .0) (m .result) (c .before .r .given .1) (m .ensures) in
+    unexplored-less (l .work) (m .last .0) (i .result) (e .others)
+    (ap (λ (n : ℕ). getD (l .work) (spansAt + n) 0) (i .ensures .0)
+    ∙ p .ensures .here (omega (arith, p .ensures .within .1, c .before .before .before .before .before .before .before .before .before .before .before .before .if1 .left)))
+    (e .explored) (omega (arith, i .ensures .1, l .inv .exploring .collecting .kept .room))
+
+loop-again : tie.Need-loop-again Inv-loop μ-loop
+loop-again c =
+    let g = c .before .before .before .before .before .before .before .before .before .before .before .before .before .before .before .before .before .args in
+    let l = c .before .before .before .before .before .before .before .before .before .before .before .before .before .before .before .loop in
+    let p = c .before .before .before .before .before .before .before .before .before .before .before .before .before .next-place in
+    let i = c .before .before .before .before .before .before .before .before .before .before .id-at in
+    let m = c .before .before .before .before .before .explore-member in
+    let k = c .before .r .given in
+    let nodes = nodesHeld (g .kinds .now) (g .firsts .now) (g .seconds .now) (g .plan .nodes) in
+    explores-next nodes (g .plan) (g .work .now) (g .s) (c .before .before .before .before .before .before .before .before .before .before .before .before .before .before .before .before .before .pre .1)
+    (l .work) (l .run) (l .shelf) (l .store) (l .inv) (p .result) (p .ensures) (i .result) (m .last .0) (k .0 .0) (k .0 .1 .0)
+    (c .before .before .before .before .before .before .before .before .store-of .result) (c .before .before .before .before .before .before .before .before .store-of .ensures)
+    (one-on nodes (g .plan) (l .work) (fromLow (l .run) (p .result)) (i .result) (m .last .0) (m .result) (k .1) (m .ensures))
+
+pub explore-spec : {M : Type 1} → statement M
+explore-spec =
+    tie.close
+    (tie.spec
+    Inv-loop
+    μ-loop
+    loop-holds
+    next-place-requires
+    same-length
+    returns
+    id-at-requires
+    store-of-requires
+    cast-d
+    shelf-for-requires
+    explore-member-requires
+    enum-known-r
+    enum-told
+    same-length-2
+    returns-2
+    loop-less
+    loop-again)

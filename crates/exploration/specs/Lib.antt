@@ -1,0 +1,7 @@
+pub mod Exploration
+pub mod ExplorationSteps
+pub mod SpanLaws
+pub mod MemberExplored
+pub mod ExploredPlaces
+pub mod Unexplored
+pub mod ExplorationLaws

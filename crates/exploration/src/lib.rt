@@ -1,0 +1,198 @@
+// The set explored: the least unexplored member next, until none is left. Stores only grow along moves and additions, so
+// members of one store come one after the other, and labels are worked out once for each store and asked set.
+use ask_labels::Shelf;
+use collected_moves::Caps;
+use collected_moves::Noted;
+use collected_moves::Running;
+use walk_state::Basis;
+use walk_state::Walk;
+use walk_state::Walked;
+use work_layout::MEMBERS;
+use work_layout::SPANS;
+ghost use mathlib.Core.Path.{_≡_};
+ghost use mathlib.Core.Bool.{cond};
+ghost use Prim.Native.Nat.{_+_, _≤_, _<_};
+ghost use lib.Dec.{eqb};
+ghost use lib.ListN.{length, getD, set};
+ghost use Rattle.sheet_laws.specs.Ranks.{rankOf};
+ghost use Rattle.movable_nodes.specs.Movability.{nodesHeld};
+ghost use Rattle.member_table.specs.MemberTable.{Kept};
+ghost use Rattle.ask_labels.specs.LabelShelf.{Shelved, noEntries};
+ghost use Rattle.collected_moves.specs.CollectedMoves.{memberPart};
+ghost use Rattle.walk_state.specs.WalkState.{NodesLent};
+ghost use Rattle.exploration.specs.Exploration.{basisOf, Exploring};
+ghost use Rattle.exploration.specs.ExplorationSteps.{spanOf, storeIn, NextPlace, MemberExplored, SetExplored};
+ghost use Rattle.work_layout.specs.WorkLayout.{workEnd, spansAt};
+
+// What stays the same while the set is explored: how many facts and nodes the sheet has, and the caps.
+pub struct Plan {
+    pub facts: u16,
+    pub nodes: usize,
+    pub caps: Caps,
+}
+
+// Members and moves with the shelf of labels after a member was explored, or that a cap is passed.
+pub enum Explored {
+    On(Running, Shelf),
+    Over,
+}
+
+// Stores where the moves of a member stand.
+fn put_span(work: &mut [u32], id: usize, first: usize, end: usize)
+    requires { ⌜ (id < 512) × (first ≤ end) × (end ≤ 4096) × (workEnd ≤ length (now work)) ⌝ }
+    ensures { λ _. ⌜ now (work .exit) ≡ set (now (work .entry)) (spansAt + id) (spanOf first end) ⌝ }
+{
+    work[SPANS + id] = (first as u32) * 65536 + (end - first) as u32 + 1;
+}
+
+// One member: its moves, and what is added.
+fn explore_member(
+    work: &mut [u32],
+    kinds: &[u8; 64],
+    firsts: &[u16; 64],
+    seconds: &[u16; 64],
+    counts: &[u8; 64],
+    threads: &[u8; 512],
+    movables: &[u8; 64],
+    plan: Plan,
+    id: usize,
+    s: Running,
+    shelf: Shelf,
+) -> Explored
+    requires { ⌜ NodesLent rankOf (now kinds) (now firsts) (now seconds) (now counts) (now threads) (now movables) (basisOf plan 0 0)
+        × Exploring (now work) plan s × (id < s .members) × (getD (now work) (spansAt + id) 0 ≡ 0)
+        × Shelved (now work) (plan .facts) (storeIn (now work) id) shelf ⌝ }
+    ensures { λ r. ⌜ MemberExplored (nodesHeld (now (kinds .entry)) (now (firsts .entry)) (now (seconds .entry)) (plan .nodes)) plan
+        (now (work .entry)) s id (now (work .exit)) r ⌝ }
+{
+    let first = s.moves;
+    let x = member_table::key_of(work, MEMBERS, s.members, id);
+    let e = sheet_types::configuration_of(x);
+    let caps = plan.caps;
+    let b = Basis {
+        facts: plan.facts,
+        nodes: plan.nodes,
+        store: e.store,
+        first,
+        caps,
+    };
+    let begun = Walk {
+        running: s,
+        shelf,
+        marks: 0,
+        top: 0,
+    };
+    let r = member_moves::moves_of(
+        work,
+        kinds,
+        firsts,
+        seconds,
+        counts,
+        threads,
+        movables,
+        b,
+        e,
+        begun,
+    );
+    let Walked::On(t) = r else {
+        return Explored::Over;
+    };
+    let running = t.running;
+    let kept = t.shelf;
+    let q = third_rule::add_labels(work, b, running);
+    let Noted::On(u) = q else {
+        return Explored::Over;
+    };
+    put_span(work, id, first, u.moves);
+    Explored::On(u, kept)
+}
+
+// Whether a member is unexplored: no span is stored.
+fn unexplored(work: &[u32], id: usize) -> bool
+    requires { ⌜ (id < 512) × (workEnd ≤ length (now work)) ⌝ }
+    ensures { λ r. ⌜ r ≡ eqb (getD (now (work .entry)) (spansAt + id) 0) 0 ⌝ }
+{
+    work[SPANS + id] == 0
+}
+
+// The lowest place from `low` on whose member is unexplored; n where there is none.
+fn next_place(work: &[u32], low: usize, n: usize) -> usize
+    requires { ⌜ Kept (memberPart (now work)) n × (low ≤ n) × (workEnd ≤ length (now work)) ⌝ }
+    ensures { λ r. ⌜ NextPlace (now (work .entry)) low n r ⌝ }
+{
+    let mut j = low;
+    while j < n {
+        let id = member_table::id_at(work, MEMBERS, n, j);
+        if unexplored(work, id) {
+            return j;
+        }
+        j += 1;
+    }
+    n
+}
+
+// The shelf, with no entries where the store is another.
+fn shelf_for(shelf: Shelf, store: u32, other: u32) -> Shelf
+    ensures { λ r. ⌜ r ≡ cond (eqb store other) shelf noEntries ⌝ }
+{
+    if store == other {
+        return shelf;
+    }
+    Shelf { sets: 0, used: 0 }
+}
+
+// Explores until every member is explored.
+pub fn explore(
+    work: &mut [u32],
+    kinds: &[u8; 64],
+    firsts: &[u16; 64],
+    seconds: &[u16; 64],
+    counts: &[u8; 64],
+    threads: &[u8; 512],
+    movables: &[u8; 64],
+    plan: Plan,
+    s: Running,
+) -> Noted
+    requires { ⌜ NodesLent rankOf (now kinds) (now firsts) (now seconds) (now counts) (now threads) (now movables) (basisOf plan 0 0)
+        × Exploring (now work) plan s ⌝ }
+    ensures { λ r. ⌜ SetExplored (nodesHeld (now (kinds .entry)) (now (firsts .entry)) (now (seconds .entry)) (plan .nodes)) plan
+        (now (work .entry)) s (now (work .exit)) r ⌝ }
+{
+    let mut run = s;
+    let mut shelf = Shelf { sets: 0, used: 0 };
+    let mut store: u32 = 65536;
+    loop {
+        let n = run.members;
+        let j = next_place(work, run.low, n);
+        if j == n {
+            return Noted::On(run);
+        }
+        let id = member_table::id_at(work, MEMBERS, n, j);
+        let d = member_table::store_of(work, MEMBERS, n, id) as u32;
+        let fit = shelf_for(shelf, store, d);
+        let from = Running {
+            members: n,
+            moves: run.moves,
+            low: j,
+        };
+        let r = explore_member(
+            work,
+            kinds,
+            firsts,
+            seconds,
+            counts,
+            threads,
+            movables,
+            plan,
+            id,
+            from,
+            fit,
+        );
+        let Explored::On(next, kept) = r else {
+            return Noted::Over;
+        };
+        run = next;
+        shelf = kept;
+        store = d;
+    }
+}

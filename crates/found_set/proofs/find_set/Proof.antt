@@ -1,0 +1,149 @@
+-- `find_set`: exploring begins with the seeds as members, and where it ends with every member explored these are the whole set.
+use native.Mathlib.Omega.{arith}
+use borrow.Author.Needs.{needs}
+use Rattle.sheet_types.specs.HeldSheet.{startsIn, sheetOf, nodesIn}
+use Rattle.comparison_laws.specs.SheetMoves.{conclusions-fit}
+use Rattle.ask_labels.specs.LabelShelfLaws.{sets-few}
+use Rattle.found_set.specs.FoundSet.{planOf}
+use Rattle.found_set.specs.SeedLaws.{seeds-on, seeds-over}
+use Rattle.found_set.specs.LentSheetLaws.{facts-few, rules-few, begins}
+use Rattle.found_set.specs.WholeSetLaws.{discovered-some}
+use Rattle.found_set.specs.FoundSetLaws.{seeds-pass, exploring-passes, whole-found, all-on, all-over}
+use Rattle.found_set.proofs.find_set.Statement.{statement}
+use Rattle.found_set.proofs.find_set.Tie as tie
+
+cast-fill-closures : tie.Need-cast-fill-closures
+cast-fill-closures c = search needs
+
+fill-closures-requires : tie.Need-fill-closures-requires
+fill-closures-requires c κs =
+    let b = c .before .before .before .before .before in
+    let fine = b .pre .2 in
+    let few = facts-few (b .args .sheet) fine in (
+      rules-few (b .args .sheet) fine,
+      few,
+      omega (arith, sets-few (b .args .sheet .facts) few, b .pre .0),
+      conclusions-fit (sheetOf (b .args .sheet)) (fine .well-formed),
+    )
+
+clear-spans-requires : tie.Need-clear-spans-requires
+clear-spans-requires c κs = search needs
+
+enter-seeds-requires : tie.Need-enter-seeds-requires
+enter-seeds-requires c κs =
+    let b = c .before .before .before .before .before .before .before .before .before .before .before .before .before in
+    (search needs, b .pre .1, omega (arith, b .pre .4 .few), λ i h. b .pre .4 .threads i (omega arith))
+
+enum-known-e : tie.Need-enum-known-e
+enum-known-e c = search needs
+
+enum-told : tie.Need-enum-told
+enum-told c = search needs
+
+same-length : tie.Need-same-length
+same-length c = search needs
+
+returns : tie.Need-returns
+returns c =
+    let b = c .before .before .before .before .before .before .before .before .before .before .before .before .before .before .before .before .before .before in
+    let g = b .args in
+    let f = c .before .before .before .before .before .before .before .before .before .before .before .before .fill-closures in
+    let n = c .before .before .before .before .before .before .before .before .clear-spans in
+    let m = c .before .before .before .before .enter-seeds in
+    seeds-pass (g .sheet) (g .seeds) (g .k) (g .caps) (b .pre .2) (b .pre .4) (g .work .now) (f .last .1 .1 .1 .0) (n .last .0) (b .pre .0) (f .ensures .1)
+    (n .ensures) (m .last .0)
+    (seeds-over (n .last .0) (g .caps) (startsIn (g .seeds) (g .k)) (m .last .0) (m .result) (c .enum-told .given .1) (m .ensures))
+
+explore-sheet-requires : tie.Need-explore-sheet-requires
+explore-sheet-requires c κs =
+    let b = c .before .before .before .before .before .before .before .before .before .before .before .before .before .before .before .before .before .before .before .before in
+    let g = b .args in
+    let f = c .before .before .before .before .before .before .before .before .before .before .before .before .before .before .fill-closures in
+    let n = c .before .before .before .before .before .before .before .before .before .before .clear-spans in
+    let m = c .before .before .before .before .before .before .enter-seeds in
+    let q = c .before .before .e .given in (
+      b .pre .2,
+      b .pre .3,
+      begins (g .sheet) (g .seeds) (g .k) (g .caps) (b .pre .2) (b .pre .4) (g .work .now) (f .last .1 .1 .1 .0) (n .last .0) (m .last .0) (q .0 .0) (b .pre .0)
+          (f .ensures .0) (f .ensures .1) (n .ensures)
+          (seeds-on (n .last .0) (g .caps) (startsIn (g .seeds) (g .k)) (m .last .0) (m .result) (q .1) (m .ensures)),
+    )
+
+enum-known-r : tie.Need-enum-known-r
+enum-known-r c = search needs
+
+enum-told-2 : tie.Need-enum-told-2
+enum-told-2 c = search needs
+
+same-length-2 : tie.Need-same-length-2
+same-length-2 c = search needs
+
+returns-2 : tie.Need-returns-2
+returns-2 c =
+    let b = c .before .before .before .before .before .before .before .before .before .before .before .before .before .before .before .before .before .before .before .before .before .before .before .before .before in
+    let g = b .args in
+    let f = c .before .before .before .before .before .before .before .before .before .before .before .before .before .before .before .before .before .before .before .fill-closures in
+    let n = c .before .before .before .before .before .before .before .before .before .before .before .before .before .before .before .clear-spans in
+    let m = c .before .before .before .before .before .before .before .before .before .before .before .enter-seeds in
+    let q = c .before .before .before .before .before .before .before .e .given in
+    let x = c .before .before .before .before .explore-sheet in
+    exploring-passes (g .sheet) (g .seeds) (g .k) (g .caps) (b .pre .2) (b .pre .4) (g .work .now) (f .last .1 .1 .1 .0) (n .last .0) (b .pre .0)
+    (f .ensures .1) (n .ensures) (m .last .0) (q .0 .0) (f .ensures .0)
+    (seeds-on (n .last .0) (g .caps) (startsIn (g .seeds) (g .k)) (m .last .0) (m .result) (q .1) (m .ensures))
+    (x .last .0)
+    (all-over (nodesIn (g .sheet .nodes) (g .sheet .«node_count»)) (planOf (g .sheet) (g .caps)) (m .last .0) (q .0 .0) (x .last .0) (x .result)
+    (c .enum-told2 .given .1) (x .ensures))
+
+arrange-requires : tie.Need-arrange-requires
+arrange-requires c κs =
+    let g = c .before .before .before .before .before .before .before .before .before .before .before .before .before .before .before .before .before .before .before .before .before .before .before .before .before .before .before .args in
+    let m = c .before .before .before .before .before .before .before .before .before .before .before .before .before .enter-seeds in
+    let q = c .before .before .before .before .before .before .before .before .before .e .given in
+    let x = c .before .before .before .before .before .before .explore-sheet in
+    let r = c .before .before .r .given in
+    let o = all-on (nodesIn (g .sheet .nodes) (g .sheet .«node_count»)) (planOf (g .sheet) (g .caps)) (m .last .0) (q .0 .0) (x .last .0) (x .result)
+    (r .1) (x .ensures) in
+    discovered-some (o .exploring) (o .all)
+
+same-length-3 : tie.Need-same-length-3
+same-length-3 c = search needs
+
+returns-3 : tie.Need-returns-3
+returns-3 c =
+    let b = c .before .before .before .before .before .before .before .before .before .before .before .before .before .before .before .before .before .before .before .before .before .before .before .before .before .before .before .before .before .before in
+    let g = b .args in
+    let f = c .before .before .before .before .before .before .before .before .before .before .before .before .before .before .before .before .before .before .before .before .before .before .before .before .fill-closures in
+    let n = c .before .before .before .before .before .before .before .before .before .before .before .before .before .before .before .before .before .before .before .before .clear-spans in
+    let m = c .before .before .before .before .before .before .before .before .before .before .before .before .before .before .before .before .enter-seeds in
+    let q = c .before .before .before .before .before .before .before .before .before .before .before .before .e .given in
+    let x = c .before .before .before .before .before .before .before .before .before .explore-sheet in
+    let r = c .before .before .before .before .before .r .given in
+    let z = c .before .before .arrange in
+    whole-found (g .sheet) (g .seeds) (g .k) (g .caps) (b .pre .2) (b .pre .4) (g .work .now) (f .last .1 .1 .1 .0) (n .last .0) (b .pre .0)
+    (f .ensures .1) (n .ensures) (m .last .0) (q .0 .0) (f .ensures .0)
+    (seeds-on (n .last .0) (g .caps) (startsIn (g .seeds) (g .k)) (m .last .0) (m .result) (q .1) (m .ensures))
+    (x .last .0) (r .0 .0) (z .last .0)
+    (all-on (nodesIn (g .sheet .nodes) (g .sheet .«node_count»)) (planOf (g .sheet) (g .caps)) (m .last .0) (q .0 .0) (x .last .0) (x .result)
+    (r .1) (x .ensures))
+    (z .ensures)
+
+pub find-set-spec : {M : Type 1} → statement M
+find-set-spec =
+    tie.close
+    (tie.spec
+    cast-fill-closures
+    fill-closures-requires
+    clear-spans-requires
+    enter-seeds-requires
+    enum-known-e
+    enum-told
+    same-length
+    returns
+    explore-sheet-requires
+    enum-known-r
+    enum-told-2
+    same-length-2
+    returns-2
+    arrange-requires
+    same-length-3
+    returns-3)

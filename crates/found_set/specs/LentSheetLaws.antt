@@ -1,0 +1,209 @@
+-- What is lent of a sheet, and where exploring begins.
+use mathlib.Core.Path.{_≡_, refl, sym, ap, _∙_, subst}
+use mathlib.Core.Logic.{inl}
+use mathlib.Core.Bool.{Bool, true, false}
+use mathlib.Core.List.{List, [], _∷_, List·Memᴰ, List·Memᴰ·not-nil}
+use Prim.Native.Nat.{ℕ, zero, suc, _+_, _^_, _≤_, _<_}
+use native.Mathlib.Omega.{arith}
+use lib.ListN.{length, getD, drop, length-drop, List·getD-eq-default}
+use lib.Dec.{ltb}
+use borrow.Author.Tests.{ltb-true, ltb-false}
+use Rattle.lists.specs.Lists.{no-elements}
+use Rattle.list_laws.specs.Frames.{SameOutside, outside-of-ends, outside-wider, outside-again}
+use Rattle.list_laws.specs.Tabulate.{tabulate-length}
+use Rattle.list_laws.specs.TabulateLaws.{tabulate-mem}
+use Rattle.stores.specs.Stores.{Constraint}
+use Rattle.sheets.specs.Sheet.{Node, stop, tell, ask, nodeOf, openingOf, openWithin, opened}
+use Rattle.sheets.specs.Sheet as spec
+use Rattle.sheets.specs.WellFormed.{OfSheet, NodeFits, Admissible}
+use Rattle.refinement.specs.Refinement.{seed}
+use Rattle.comparison_laws.specs.SheetMoves.{conclusions-fit}
+use Rattle.closure_table.specs.ClosureTable.{Closures, closures-agree}
+use Rattle.set_closure.specs.RuleTable.{rulesIn, ruleIn}
+use Rattle.sheet_types.specs.declared.Configuration.{Configuration}
+use Rattle.sheet_types.specs.declared.Sheet.{Sheet}
+use Rattle.sheet_types.specs.HeldSheet.{configuration, noConfiguration, startsIn, sheetOf, nodeIn, nodesIn}
+use Rattle.node_opening.specs.OpenedNodes.{OpenedTable}
+use Rattle.movable_nodes.specs.Movability.{MovableHeld}
+use Rattle.ask_labels.specs.LabelShelfLaws.{sets-few}
+use Rattle.collected_moves.specs.declared.Caps.{Caps}
+use Rattle.collected_moves.specs.declared.Running.{Running}
+use Rattle.collected_moves.specs.CollectedLaws.{collecting-empty}
+use Rattle.set_growth.specs.SetGrowth.{Growth, Sound}
+use Rattle.sheet_laws.specs.Ranks.{rankOf}
+use Rattle.sheet_laws.specs.ReadingLaws.{well-formed-ranked}
+use Rattle.walk_state.specs.WalkState.{NodesLent, MemberFits}
+use Rattle.exploration.specs.Exploration.{basisOf, Exploring, ExploredFor}
+use Rattle.exploration.specs.ExplorationSteps.{OnPlan}
+use Rattle.found_set.specs.FoundSet.{limitsOf, planOf, SeedsFit, Cleared, SeededOn}
+use Rattle.work_layout.specs.WorkLayout.{workEnd, spansAt}
+
+-- ---- counts of a sheet that is held
+module _ (sheet : Sheet) (fine : Admissible (sheetOf sheet)) where
+  pub facts-few : sheet .facts ≤ 12
+  facts-few = fine .within .few-facts
+
+  pub rules-few : sheet .«rule_count» ≤ 32
+  rules-few = rw (tabulate-length (ruleIn (sheet .rules)) (sheet .«rule_count»)) at (fine .within .few-rules)
+
+  pub nodes-are : length (nodesIn (sheet .nodes) (sheet .«node_count»)) ≡ sheet .«node_count»
+  nodes-are = tabulate-length (nodeIn (sheet .nodes)) (sheet .«node_count»)
+
+  pub nodes-few : sheet .«node_count» ≤ 64
+  nodes-few = rw nodes-are at (fine .within .few-nodes)
+
+  -- ---- what is lent
+  told-fits : (k c : ℕ) → k < sheet .«node_count» → nodeOf (nodesIn (sheet .nodes) (sheet .«node_count»)) k ≡ tell c → c < 2 ^ sheet .facts
+  told-fits k c h e =
+      let l : k < length (nodesIn (sheet .nodes) (sheet .«node_count»)) = omega (arith, h, nodes-are) in
+      let f : Constraint (sheet .facts) (rulesIn (sheet .rules) (sheet .«rule_count»)) c =
+      subst
+      (NodeFits (sheet .facts) (rulesIn (sheet .rules) (sheet .«rule_count»)) (length (nodesIn (sheet .nodes) (sheet .«node_count»))) k) e
+      (fine .well-formed .nodes-fit k l) in
+      f .facts
+
+  asked-fits : (k c q : ℕ) → k < sheet .«node_count» → nodeOf (nodesIn (sheet .nodes) (sheet .«node_count»)) k ≡ ask c q
+      → (c < 2 ^ sheet .facts) × (q < sheet .«node_count»)
+  asked-fits k c q h e =
+      let l : k < length (nodesIn (sheet .nodes) (sheet .«node_count»)) = omega (arith, h, nodes-are) in
+      let f : Constraint (sheet .facts) (rulesIn (sheet .rules) (sheet .«rule_count»)) c
+      × (q < length (nodesIn (sheet .nodes) (sheet .«node_count»))) =
+      subst
+      (NodeFits (sheet .facts) (rulesIn (sheet .rules) (sheet .«rule_count»)) (length (nodesIn (sheet .nodes) (sheet .«node_count»))) k) e
+      (fine .well-formed .nodes-fit k l) in
+      (f .0 .facts, omega (arith, f .1, nodes-are))
+
+  pub sheet-lent : (caps : Caps) (movables : List ℕ) → OpenedTable (nodesIn (sheet .nodes) (sheet .«node_count»)) (sheet .opened)
+      → MovableHeld (nodesIn (sheet .nodes) (sheet .«node_count»)) (sheet .«node_count») movables
+      → NodesLent rankOf (sheet .nodes .kinds) (sheet .nodes .firsts) (sheet .nodes .seconds) (sheet .opened .counts) (sheet .opened .threads) movables
+      (basisOf (planOf sheet caps) 0 0)
+  sheet-lent caps movables o m =
+      record {
+        few = nodes-few;
+        ranked = well-formed-ranked (sheetOf sheet) (fine .well-formed);
+        told = told-fits;
+        asked = asked-fits;
+        opens = λ k h. o .holds .at k (omega (arith, h, nodes-are));
+        few-threads = λ k h. o .few .at k (omega (arith, h, nodes-are));
+        movable = m;
+      }
+
+-- what is no node opens to nothing
+opens-none : (ns : List Node) (k f : ℕ) → nodeOf ns k ≡ stop → openWithin f ns k ≡ []
+unfolding openWithin
+opens-none ns k zero q = refl
+opens-none ns k (suc f) q = ap (openingOf (openWithin f ns) k) q
+
+-- a thread that opens to itself is one of the nodes
+self-node : (ns : List Node) (k : ℕ) → opened ns k ≡ k ∷ [] → k < length ns
+self-node ns k e = go (ltb k (length ns)) refl
+  where
+    never : [] ≡ k ∷ [] → ⊥
+    never q = let z : _≡_ {A = ℕ} 0 1 = ap length q in omega arith
+
+    go : (b : Bool) → ltb k (length ns) ≡ b → k < length ns
+    go true q = ltb-true k (length ns) q
+    go false q = absurd (never (sym (opens-none ns k (length ns) (List·getD-eq-default ns stop (ltb-false k (length ns) q))) ∙ e))
+
+module _ (sheet : Sheet) (seeds : List Configuration) (k : ℕ) (caps : Caps) (fine : Admissible (sheetOf sheet)) (fit : SeedsFit sheet seeds k) where
+  pub seed-of : (p : spec.Configuration) → List·Memᴰ p (startsIn seeds k) → OfSheet (sheetOf sheet) p
+  seed-of p m =
+      let i = tabulate-mem (λ j. configuration (getD seeds j noConfiguration)) k m in
+      subst (OfSheet (sheetOf sheet)) (sym (i .2)) (fit .of-sheet (i .0) (i .1))
+
+  abbrev pub growthOf : Growth
+  growthOf = record { sheet = sheetOf sheet; limits = limitsOf caps; seeds = startsIn seeds k }
+
+  pub growth-sound : Sound growthOf caps
+  growth-sound = record { well-formed = fine .well-formed; seeds-of = seed-of; limits = (refl, refl, refl) }
+
+  -- a seed with no more threads than allowed fits
+  seed-fits : (p : spec.Configuration) → List·Memᴰ p (startsIn seeds k) → length (p .threads) ≤ caps .threads
+      → MemberFits (basisOf (planOf sheet caps) 0 0) p
+  seed-fits p m h =
+      let o = seed-of p m in
+      record {
+        store = o .store .facts;
+        threads = record {
+          few = h;
+          ascending = o .process .ascending;
+          nodes = λ t i.
+              omega (arith, nodes-are sheet fine, self-node (nodesIn (sheet .nodes) (sheet .«node_count»)) t (o .process .self-opening t i));
+        };
+      }
+
+  -- ---- where exploring begins
+  -- filling the table changes nothing behind it
+  pub filled-outside : (v a : List ℕ) → workEnd ≤ length v → drop (2 ^ sheet .facts) a ≡ drop (2 ^ sheet .facts) v → SameOutside 0 4096 v a
+  filled-outside v a h e =
+      let size : 2 ^ sheet .facts ≤ 4096 = sets-few (sheet .facts) (fine .within .few-facts) in
+      let long : length a ≡ length v =
+      omega (arith, length-drop (2 ^ sheet .facts) a, length-drop (2 ^ sheet .facts) v, ap length e) in
+      outside-wider (outside-of-ends 0 (2 ^ sheet .facts) v a long refl e) 0 4096 (omega arith) size
+
+  module _ (v a b w : List ℕ) (s : Running) (long : workEnd ≤ length v)
+      (closed : Closures (rulesIn (sheet .rules) (sheet .«rule_count»)) 0 (2 ^ sheet .facts) a)
+      (behind : drop (2 ^ sheet .facts) a ≡ drop (2 ^ sheet .facts) v) (cleared : Cleared a b) (seeded : SeededOn b caps (startsIn seeds k) w s) where
+    size : 2 ^ sheet .facts ≤ 4096
+    size = sets-few (sheet .facts) (fine .within .few-facts)
+
+    table-closed : Closures (rulesIn (sheet .rules) (sheet .«rule_count»)) 0 (2 ^ sheet .facts) w
+    table-closed =
+        closures-agree closed
+        (λ i l. seeded .inside .at i (inl (omega (arith, size))) ∙ cleared .outside .at i (inl (omega (arith, size))))
+
+    no-span : (id : ℕ) → id < 512 → getD w (spansAt + id) 0 ≡ 0
+    no-span id h = seeded .inside .at (spansAt + id) (inl (omega arith)) ∙ cleared .none id h
+
+    few-members : s .members ≤ 512
+    few-members = seeded .collecting .kept .room
+
+    pub begins : Exploring w (planOf sheet caps) s
+    begins =
+        record {
+          collecting =
+              collecting-empty w s caps (seeded .collecting .long) (seeded .collecting .caps) (seeded .collecting .kept)
+              (seeded .collecting .room .0) (seeded .collecting .room .2);
+          fit = λ x m. let q = seeded .only x m in seed-fits x q (seeded .few x q);
+          few-facts = fine .within .few-facts;
+          table = record {
+            rules = rulesIn (sheet .rules) (sheet .«rule_count»);
+            closures = table-closed;
+            fit = conclusions-fit (sheetOf sheet) (fine .well-formed);
+          };
+          spans = λ id h. inl (no-span id (omega (arith, h, few-members)));
+          unused = λ id h l. no-span id l;
+          apart = λ i j h l x y n. absurd (omega (arith, x, no-span i (omega (arith, h, few-members))));
+          low = λ j h. absurd (omega (arith, h, seeded .lowest));
+        }
+
+    pub begins-on : OnPlan growthOf (nodesIn (sheet .nodes) (sheet .«node_count»)) (planOf sheet caps) w
+    begins-on =
+        record {
+          sound = growth-sound;
+          nodes-are = refl;
+          node-count = nodes-are sheet fine;
+          facts-are = refl;
+          closures = table-closed;
+        }
+
+    pub begins-for : ExploredFor growthOf w s
+    begins-for =
+        record {
+          members-in = λ x m. seed (seeded .only x m);
+          seeds-in = seeded .all;
+          done = λ id h e. absurd (omega (arith, e, no-span id (omega (arith, h, few-members))));
+          counted = record {
+            all = [];
+            distinct = no-elements;
+            count = sym (seeded .no-moves);
+            only = λ x m. absurd (List·Memᴰ·not-nil m);
+            whole = λ id m h e i. absurd (omega (arith, e, no-span id (omega (arith, h, few-members))));
+          };
+        }
+
+    pub begins-outside : SameOutside 0 workEnd v w
+    begins-outside =
+        outside-again (outside-wider (filled-outside v a long behind) 0 workEnd (omega arith) (omega arith))
+        (outside-again (outside-wider (cleared .outside) 0 workEnd (omega arith) (omega arith))
+        (outside-wider (seeded .inside) 0 workEnd (omega arith) (omega arith)))

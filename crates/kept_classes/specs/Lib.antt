@@ -1,0 +1,9 @@
+pub mod ClassBirths
+pub mod RoundLines
+pub mod AddedStores
+pub mod MemberLines
+pub mod DominatingMoves
+pub mod ClassesPresent
+pub mod SetClasses
+pub mod ClassPlaces
+pub mod RoundLayout

@@ -1,0 +1,58 @@
+-- The members are listed and both starts found among them before the levels are asked.
+use borrow.Author.Needs.{needs}
+use borrow.Author.Tests.{not-false}
+use Rattle.level_tables.specs.Tells.{tells-true}
+use Rattle.level_check.specs.Checking.{listed-few, members-differ, places-differ}
+use Rattle.level_check.proofs.check_levels.Statement.{statement}
+use Rattle.level_check.proofs.check_levels.Tie as tie
+
+list-members-requires : tie.Need-list-members-requires
+list-members-requires c κs = search needs
+
+same-length : tie.Need-same-length
+same-length c = search needs
+
+returns : tie.Need-returns
+returns c = members-differ
+
+both-placed-requires : tie.Need-both-placed-requires
+both-placed-requires c κs = listed-few (c .before .before .before .before .list-members .ensures) (c .before .if1 .left)
+
+same-length-2 : tie.Need-same-length-2
+same-length-2 c = search needs
+
+returns-2 : tie.Need-returns-2
+returns-2 c = places-differ
+
+all-levels-requires : tie.Need-all-levels-requires
+all-levels-requires c κs = search needs
+
+classes-agree-requires : tie.Need-classes-agree-requires
+classes-agree-requires c κs = search needs
+
+judge-requires : tie.Need-judge-requires
+judge-requires c κs =
+    let placed = c .before .before .before .before .before .before .before in
+    (c .before .before .before .before .before .before .before .before .before .before .before .before .before .before .before .before .pre, c .before .before .before .before .all-levels .ensures, tells-true (placed .both-placed .ensures) (not-false _ (c .before .before .before .before .before .before .if2 .left)))
+
+same-length-3 : tie.Need-same-length-3
+same-length-3 c = search needs
+
+returns-3 : tie.Need-returns-3
+returns-3 c = search needs
+
+pub check-levels-spec : {M : Type 1} → statement M
+check-levels-spec =
+    tie.close
+    (tie.spec
+    list-members-requires
+    same-length
+    returns
+    both-placed-requires
+    same-length-2
+    returns-2
+    all-levels-requires
+    classes-agree-requires
+    judge-requires
+    same-length-3
+    returns-3)

@@ -1,0 +1,52 @@
+-- Each set is passed once.
+use mathlib.Core.Path.{_≡_}
+use Prim.Native.Nat.{_-_, _≤_}
+use lib.ListN.{length}
+use borrow.Author.Needs.{needs}
+use Rattle.level_reach.proofs.intake.put_closures.Statement.{statement}
+use Rattle.level_reach.proofs.intake.put_closures.Tie as tie
+
+abbrev Inv-loop : tie.InvT-loop
+Inv-loop w₀ rules n sets s₀ w s = (s ≤ sets) × (length w ≡ length w₀)
+
+abbrev μ-loop : tie.MeasureT-loop
+μ-loop w₀ rules n sets s₀ w s = sets - s
+
+loop-holds : tie.Need-loop-holds Inv-loop μ-loop
+loop-holds c = search needs
+
+closure-requires : tie.Need-closure-requires Inv-loop μ-loop
+closure-requires c κs = search needs
+
+put-requires : tie.Need-put-requires Inv-loop μ-loop
+put-requires c κs = search needs
+
+add-s : tie.Need-add-s Inv-loop μ-loop
+add-s c = search needs
+
+loop-less : tie.Need-loop-less Inv-loop μ-loop
+loop-less c = search needs
+
+loop-again : tie.Need-loop-again Inv-loop μ-loop
+loop-again c = search needs
+
+same-length : tie.Need-same-length Inv-loop μ-loop
+same-length c = search needs
+
+returns : tie.Need-returns Inv-loop μ-loop
+returns c = search needs
+
+pub put-closures-spec : {M : Type 1} → statement M
+put-closures-spec =
+    tie.close
+    (tie.spec
+    Inv-loop
+    μ-loop
+    loop-holds
+    closure-requires
+    put-requires
+    add-s
+    loop-less
+    loop-again
+    same-length
+    returns)

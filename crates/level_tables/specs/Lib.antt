@@ -1,0 +1,6 @@
+pub mod Numbers
+pub mod Pairs
+pub mod ThreadLists
+pub mod Tells
+pub mod PairLaws
+pub mod ThreadListLaws

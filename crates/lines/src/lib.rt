@@ -1,1 +1,0 @@
-// Lines of output as text: decimal numbers, fields and words. Definitions and laws. No code.

@@ -1,0 +1,11 @@
+pub mod TestLaws
+pub mod Members
+pub mod AscendingLaws
+pub mod Tabulate
+pub mod Counting
+pub mod SortingLaws
+pub mod Storing
+pub mod Frames
+pub mod TabulateLaws
+pub mod EnteringLaws
+pub mod ListPlaces

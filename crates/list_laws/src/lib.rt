@@ -1,0 +1,1 @@
+// Lists, tests and orders: laws that the crates above cite. No functions.

@@ -1,0 +1,1 @@
+// Labels, labelled moves and reductions: laws. No functions.

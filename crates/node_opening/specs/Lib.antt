@@ -1,0 +1,2 @@
+pub mod CarriedInsertion
+pub mod OpenedNodes

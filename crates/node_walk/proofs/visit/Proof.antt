@@ -1,0 +1,116 @@
+-- The last node to visit is taken out and looked for among the marks; it may be passed over where it was marked before, else it is
+-- visited by its kind.
+use borrow.Author.Needs.{needs}
+use native.Mathlib.Omega.{arith}
+use Prim.Native.Nat.{ℕ, _+_, _-_, _<_}
+use mathlib.Core.Path.{_≡_, ap, _∙_}
+use Rattle.list_laws.specs.TestLaws.{not-back}
+use Rattle.node_moves.specs.NodeMoves.{NodeBeside}
+use Rattle.nodes_to_visit.specs.NodesToVisit.{nodeBeside, nodeFor}
+use Rattle.movable_nodes.specs.Movability.{nodesHeld}
+use Rattle.node_walk.specs.NodeVisitLaws.{taken-walking, taken-passed, taken-fits, taken-low, taken-turned}
+use Rattle.node_walk.proofs.visit.Statement.{statement}
+use Rattle.node_walk.proofs.visit.Tie as tie
+
+sub-top : tie.Need-sub-top
+sub-top c = search needs
+
+pending-at-requires : tie.Need-pending-at-requires
+pending-at-requires c κs =
+    let o = c .before .before .before in
+    let n : o .args .s .top - 1 + 1 ≡ o .args .s .top = omega (arith, o .pre .2) in
+    let k = o .pre .1 in
+    (omega (arith, k .top), omega (arith, k .collecting .long), k .entries (o .args .s .top - 1) (omega arith) .packed)
+
+node-of-requires : tie.Need-node-of-requires
+node-of-requires c κs = c .pending-at .ensures .0
+
+cast-kind : tie.Need-cast-kind
+cast-kind c = search needs
+
+element-copy-out-kind : tie.Need-element-copy-out-kind
+element-copy-out-kind c =
+    let unpacked = c .before in
+    let read = unpacked .before in
+    let o = read .before .before .before .before in
+    let n : o .args .s .top - 1 + 1 ≡ o .args .s .top = omega (arith, o .pre .2) in
+    let entry = o .pre .1 .entries (o .args .s .top - 1) (omega arith) in
+    let same = ap (λ (z : NodeBeside). z .node) (unpacked .node-of .ensures .0 ∙ read .pending-at .ensures .1) in
+    omega (arith, entry .fits .node, o .pre .0 .few, same)
+
+see-requires : tie.Need-see-requires
+see-requires c κs =
+    let read = c .before .before .before .before in
+    let o = read .before .before .before .before in
+    let k = o .pre .1 in
+    (k .marks, read .pending-at .ensures .0, omega (arith, k .top), omega (arith, k .collecting .long))
+
+same-length : tie.Need-same-length
+same-length c = search needs
+
+returns : tie.Need-returns
+returns c =
+    let seen = c .before .before .before .before .before .before in
+    let unpacked = seen .before .before .before .before in
+    let read = unpacked .before in
+    let o = read .before .before .before .before in
+    let a = o .args in
+    let m = seen .see in
+    let x = read .pending-at in
+    let n : a .s .top - 1 + 1 ≡ a .s .top = omega (arith, o .pre .2) in
+    taken-passed (o .pre .1) (a .s .top - 1) n (nodeFor (x .result)) (x .ensures .1) (m .ensures)
+    (nodesHeld (a .kinds .now) (a .firsts .now) (a .seconds .now) (a .b .nodes)) (not-back (m .result .fresh) (c .if1 .taken))
+
+visit-kind-requires : tie.Need-visit-kind-requires
+visit-kind-requires c κs =
+    let seen = c .before .before .before .before .before .before .before in
+    let unpacked = seen .before .before .before .before in
+    let read = unpacked .before in
+    let o = read .before .before .before .before in
+    let a = o .args in
+    let m = seen .see in
+    let e = unpacked .node-of in
+    let x = read .pending-at in
+    let n : a .s .top - 1 + 1 ≡ a .s .top = omega (arith, o .pre .2) in
+    let k = o .pre .1 in (
+      o .pre .0,
+      taken-walking k (a .s .top - 1) n (nodeFor (x .result)) (x .ensures .1) (m .ensures),
+      taken-fits k (a .s .top - 1) n (nodeFor (x .result)) (x .ensures .1) (m .ensures) (nodeBeside (e .result)) (e .ensures .0),
+      e .ensures .1,
+      taken-low k (a .s .top - 1) n (nodeFor (x .result)) (x .ensures .1) (m .ensures) (nodeBeside (e .result)) (e .ensures .0),
+    )
+
+same-length-2 : tie.Need-same-length-2
+same-length-2 c = search needs
+
+returns-2 : tie.Need-returns-2
+returns-2 c =
+    let visited = c .before .before in
+    let seen = visited .before .before .before .before .before .before .before .before in
+    let unpacked = seen .before .before .before .before in
+    let read = unpacked .before in
+    let o = read .before .before .before .before in
+    let a = o .args in
+    let m = seen .see in
+    let e = unpacked .node-of in
+    let x = read .pending-at in
+    let n : a .s .top - 1 + 1 ≡ a .s .top = omega (arith, o .pre .2) in
+    let r = visited .visit-kind in
+    taken-turned (o .pre .1) (a .s .top - 1) n (nodeFor (x .result)) (x .ensures .1) (m .ensures) (nodeBeside (e .result)) (e .ensures .0)
+    (nodesHeld (a .kinds .now) (a .firsts .now) (a .seconds .now) (a .b .nodes)) (r .last .0) (r .result) (r .ensures)
+
+pub visit-spec : {M : Type 1} → statement M
+visit-spec =
+    tie.close
+    (tie.spec
+    sub-top
+    pending-at-requires
+    node-of-requires
+    cast-kind
+    element-copy-out-kind
+    see-requires
+    same-length
+    returns
+    visit-kind-requires
+    same-length-2
+    returns-2)

@@ -1,0 +1,3 @@
+pub mod NodeVisits
+pub mod MarkLaws
+pub mod NodeVisitLaws

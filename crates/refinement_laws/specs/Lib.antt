@@ -1,0 +1,4 @@
+pub mod LawfulMoves
+pub mod LevelLaws
+pub mod RoundLevels
+pub mod StableRounds

@@ -1,0 +1,85 @@
+-- The bytes of a report in the work slice are those that document 01 has for the report.
+use mathlib.Core.Path.{_≡_, refl, sym, ap, ap₂, _∙_, subst}
+use mathlib.Core.List.{List, [], _∷_, _++_, map, append-assoc}
+use Prim.Native.Nat.{ℕ, zero, suc, _+_, _<_}
+use native.Mathlib.Omega.{arith}
+use lib.ListN.{length, getD, length-map}
+use Rattle.lists.specs.Lists.{Ascends, concatMap}
+use Rattle.list_laws.specs.Tabulate.{tabulate, tabulate-length, tabulate-at}
+use Rattle.list_laws.specs.TabulateLaws.{mem-tabulate, ascends-apart}
+use Rattle.list_laws.specs.SortingLaws.{concatMap-next}
+use Rattle.sheets.specs.Sheet.{Configuration}
+use Rattle.move_laws.specs.OrderLaws.{configurationOrder}
+use Rattle.moves.specs.Orders.{configurationBefore}
+use Rattle.work_layout.specs.SetLayout.{memberAt}
+use Rattle.comparison.specs.Classes.{placeOf, classOf}
+use Rattle.comparison_laws.specs.ClassLaws.{placeOf-lt, placeOf-at}
+use Rattle.comparison.specs.Trail.{TrailStep}
+use Rattle.comparison.specs.Report.{Report, wordBytes, memberBytes, membersBytes, stepBytes, reportBytes}
+use Rattle.report_bytes.specs.ReportLayout.{memberBytesAt, stepBytesAt, heldBytes}
+use Rattle.report_bytes.specs.ReportInSlice.{StepNumbers, stepIn, stepNumbers, Agrees}
+use Rattle.work_layout.specs.ClassLayout.{classIn}
+
+-- lists joined by places are those of the elements at the places
+module _ {A : Type 0} (f : A → List ℕ) (g : ℕ → A) (h : ℕ → List ℕ) where
+  joined-alike : (n : ℕ) → ((i : ℕ) → i < n → h i ≡ f (g i)) → concatMap h (tabulate (λ i. i) n) ≡ concatMap f (tabulate g n)
+  unfolding tabulate
+  joined-alike zero e = refl
+  joined-alike (suc n) e =
+      concatMap-next h (tabulate (λ i. i) n) n
+      ∙ ap₂ (λ (a b : List ℕ). a ++ b) (joined-alike n (λ i l. e i (omega arith))) (e n (omega arith))
+      ∙ sym (concatMap-next f (tabulate g n) (g n))
+
+-- the place of the i-th of different members is i
+place-is : (g : ℕ → Configuration) (n : ℕ) → Ascends configurationBefore (tabulate g n) → (i : ℕ) → i < n → placeOf (tabulate g n) (g i) ≡ i
+place-is g n asc i l =
+    let m = mem-tabulate g n i l in
+    let j : ℕ = placeOf (tabulate g n) (g i) in
+    let b : j < n = omega (arith, placeOf-lt (tabulate g n) (g i) m, tabulate-length g n) in
+    ascends-apart configurationOrder g n asc j i b l
+    (sym (tabulate-at g n j (g i) b) ∙ placeOf-at (tabulate g n) (g i) m)
+
+-- the bytes of a step, from its four numbers
+abbrev numbersBytes : StepNumbers → List ℕ
+numbersBytes s = (s .side ∷ []) ++ wordBytes (s .label) ++ wordBytes (s .target) ++ wordBytes (s .reply)
+
+steps-bytes : (set : List Configuration) (steps : List TrailStep)
+    → concatMap numbersBytes (map (stepNumbers set) steps) ≡ concatMap (stepBytes set) steps
+steps-bytes set [] = refl
+steps-bytes set (s ∷ steps) = ap (λ (l : List ℕ). stepBytes set s ++ l) (steps-bytes set steps)
+
+module _ (r : Report) (w : List ℕ) (n k : ℕ) (H : Agrees r w n k) where
+  pub held-members-count : n ≡ length (r .members)
+  held-members-count = sym (tabulate-length (memberAt w) n) ∙ ap length (H .members)
+
+  pub held-steps-count : k ≡ length (r .steps)
+  held-steps-count = sym (tabulate-length (stepIn w) k) ∙ ap length (H .steps) ∙ length-map (r .steps) (stepNumbers (r .members))
+
+  place-in : (i : ℕ) → i < n → placeOf (r .members) (memberAt w i) ≡ i
+  place-in i l =
+      subst (λ (set : List Configuration). placeOf set (memberAt w i) ≡ i) (H .members)
+      (place-is (memberAt w) n (subst (Ascends configurationBefore) (sym (H .members)) (H .ascending)) i l)
+
+  class-in : (i : ℕ) → i < n → classIn w i ≡ classOf (r .members) (r .classes) (memberAt w i)
+  class-in i l = H .classes i l ∙ ap (λ (j : ℕ). getD (r .classes) j 0) (sym (place-in i l))
+
+  members-in : concatMap (memberBytesAt w) (tabulate (λ i. i) n) ≡ membersBytes (r .members) (r .classes)
+  members-in =
+      joined-alike (λ p. memberBytes p (classOf (r .members) (r .classes) p)) (memberAt w) (memberBytesAt w) n
+      (λ i l. ap (memberBytes (memberAt w i)) (class-in i l))
+      ∙ ap (concatMap (λ p. memberBytes p (classOf (r .members) (r .classes) p))) (H .members)
+
+  steps-in : concatMap (stepBytesAt w) (tabulate (λ i. i) k) ≡ concatMap (stepBytes (r .members)) (r .steps)
+  steps-in =
+      joined-alike numbersBytes (stepIn w) (stepBytesAt w) k (λ i l. refl)
+      ∙ ap (concatMap numbersBytes) (H .steps)
+      ∙ steps-bytes (r .members) (r .steps)
+
+  pub held-report : heldBytes w n k ≡ reportBytes r
+  held-report =
+      let m : List ℕ = wordBytes (length (r .members)) ++ membersBytes (r .members) (r .classes) in
+      let s : List ℕ = concatMap (stepBytes (r .members)) (r .steps) in
+      ap₂ (λ (a b : List ℕ). a ++ b)
+      (ap₂ (λ (c : ℕ) (l : List ℕ). wordBytes c ++ l) held-members-count members-in)
+      (ap₂ (λ (c : ℕ) (l : List ℕ). wordBytes c ++ l) held-steps-count steps-in)
+      ∙ sym (append-assoc m (wordBytes (length (r .steps))) s)

@@ -1,0 +1,4 @@
+pub mod MemberLinesFound
+pub mod SettledMoves
+pub mod WatchingMembers
+pub mod SetLinesFound

@@ -1,0 +1,79 @@
+-- After i turns the set is that of a pass over the first i rules.
+use Rattle.stores.specs.Stores.{pass}
+use Rattle.set_closure.specs.RuleTable.{rulesIn}
+use Rattle.set_closure.specs.PassLaws.{pass-rules-none, pass-rules-next}
+use borrow.Author.Needs.{needs}
+use native.Mathlib.Omega.{arith}
+use Prim.Native.Nat.{_-_, _≤_}
+use mathlib.Core.Path.{_≡_, sym}
+use Rattle.set_closure.proofs.pass_once.Statement.{statement}
+use Rattle.set_closure.proofs.pass_once.Tie as tie
+
+abbrev Inv-loop : tie.InvT-loop
+Inv-loop rules n set s₀ i₀ s i = (i ≤ n) × (s ≡ pass (rulesIn rules i) set)
+
+abbrev μ-loop : tie.MeasureT-loop
+μ-loop rules n set s₀ i₀ s i = n - i
+
+loop-holds : tie.Need-loop-holds Inv-loop μ-loop
+loop-holds c = (search needs, sym (pass-rules-none (c .args .rules .now) (c .args .set)))
+
+mul-fire : tie.Need-mul-fire Inv-loop μ-loop
+mul-fire c = search needs
+
+mul-fire-2 : tie.Need-mul-fire-2 Inv-loop μ-loop
+mul-fire-2 c = search needs
+
+element-copy-out-fire : tie.Need-element-copy-out-fire Inv-loop μ-loop
+element-copy-out-fire c = search needs
+
+mul-fire-3 : tie.Need-mul-fire-3 Inv-loop μ-loop
+mul-fire-3 c = search needs
+
+add-fire : tie.Need-add-fire Inv-loop μ-loop
+add-fire c = search needs
+
+mul-fire-4 : tie.Need-mul-fire-4 Inv-loop μ-loop
+mul-fire-4 c = search needs
+
+element-copy-out-fire-2 : tie.Need-element-copy-out-fire-2 Inv-loop μ-loop
+element-copy-out-fire-2 c = search needs
+
+fire-requires : tie.Need-fire-requires Inv-loop μ-loop
+fire-requires c κs = search needs
+
+add-i : tie.Need-add-i Inv-loop μ-loop
+add-i c = search needs
+
+loop-less : tie.Need-loop-less Inv-loop μ-loop
+loop-less c = search needs
+
+loop-again : tie.Need-loop-again Inv-loop μ-loop
+loop-again c =
+    let args = c .before .before .before .before .before .args in
+    (search needs, cc (pass-rules-next (args .rules .now) (c .before .before .before .before .loop .i) (args .set)))
+
+returns : tie.Need-returns Inv-loop μ-loop
+returns c =
+    let e : c .before .loop .i ≡ c .before .before .args .n = omega arith in
+    cc
+
+pub pass-once-spec : {M : Type 1} → statement M
+pass-once-spec =
+    tie.close
+    (tie.spec
+    Inv-loop
+    μ-loop
+    loop-holds
+    mul-fire
+    mul-fire-2
+    element-copy-out-fire
+    mul-fire-3
+    add-fire
+    mul-fire-4
+    element-copy-out-fire-2
+    fire-requires
+    add-i
+    loop-less
+    loop-again
+    returns)

@@ -1,0 +1,3 @@
+pub mod RuleTable
+pub mod PassLaws
+pub mod RuleTableLaws

@@ -1,0 +1,2 @@
+pub mod SetGrowth
+pub mod SetGrowthLaws

@@ -1,0 +1,6 @@
+pub mod OrderedSet
+pub mod SetOrderSteps
+pub mod CopyLaws
+pub mod MovedPlaceLaws
+pub mod SetOrderLaws
+pub mod OrderedSetLaws

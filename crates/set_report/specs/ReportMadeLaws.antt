@@ -1,0 +1,307 @@
+-- From the rounds to the report: what stands in the work slice after each step, and that in the end it agrees with document 01's
+-- report on the set.
+use mathlib.Core.Path.{_≡_, refl, sym, ap, ap₂, _∙_, subst}
+use mathlib.Core.Logic.{_⊎_, inl, inr}
+use mathlib.Core.Bool.{Bool, true, false, cond}
+use mathlib.Core.List.{List, [], _∷_, _++_, map, List·Memᴰ}
+use Prim.Native.Nat.{ℕ, suc, _+_, _*_, _-_, _/_, _%_, _≤_, _<_}
+use native.Mathlib.Omega.{arith}
+use native.Mathlib.Numerals.{add-one}
+use lib.ListN.{length, getD, drop, length-map}
+use lib.Dec.{eqb, ltb}
+use borrow.Author.Tests.{lt-ltb, le-ltb}
+use Rattle.list_laws.specs.Frames.{SameOutside, outside-then}
+use Rattle.list_laws.specs.ListPlaces.{getD-image}
+use Rattle.list_laws.specs.Tabulate.{tabulate, tabulate-same, tabulate-at, tabulate-length}
+use Rattle.sheets.specs.Sheet.{Configuration, Sheet}
+use Rattle.packing.specs.declared.Numbers.{Numbers}
+use Rattle.packing.specs.Packing.{standsFor, PackedIn}
+use Rattle.sheet_types.specs.declared.Configuration as struct
+use Rattle.sheet_types.specs.HeldSheet.{configuration}
+use Rattle.work_layout.specs.SetLayout.{memberAt, SetHeld}
+use Rattle.comparison.specs.Classes.{placeOf}
+use Rattle.comparison.specs.Rounds.{classes, rounds, resultOf, apartIn}
+use Rattle.comparison.specs.Trail.{Side, left, right, none, TrailStep, trail}
+use Rattle.comparison.specs.Report as spec
+use Rattle.comparison.specs.Report.{SAME, DIFF, sideByte, reportOn, reportBytes, reportLength}
+use Rattle.comparison.specs.Frame.{reported, refusal}
+use Rattle.comparison.specs.Call.{Compares, answerAfter}
+use Rattle.kept_classes.specs.ClassesPresent.{present-alike}
+use Rattle.kept_classes.specs.RoundLayout.{same-set-low, held-found, held-place, held-count}
+use Rattle.dominators.specs.FoundMembers.{FoundAt, held-ordered}
+use Rattle.class_splits.specs.ClassedPlaces.{classed-count, classed-same}
+use Rattle.class_rounds.specs.RoundAtHand.{nobody, TogetherHeld, SetReady}
+use Rattle.class_rounds.specs.RoundsDone.{Ready, RoundsHeld, Refined, ready-same}
+use Rattle.separations.specs.ApartClasses.{rounds-apart}
+use Rattle.separations.specs.ReportClasses.{NumberReady, Renumbered}
+use Rattle.report_bytes.specs.ReportLayout.{sideIn, heldBytes}
+use Rattle.report_bytes.specs.ReportInSlice.{StepNumbers, stepIn, stepNumbers, ReportHeld, Agrees}
+use Rattle.report_bytes.specs.ReportInSliceLaws.{held-report}
+use Rattle.trail_search.specs.TrailLayout.{apartAt, TrailHeld, BirthsHeld, Followable}
+use Rattle.trail_search.specs.FollowedTrail.{Trailed}
+use Rattle.answers.specs.declared.Answer.the-variants.{Report, Refused}
+use Rattle.answers.specs.Returned.{isSame, returnedOf, returned}
+use Rattle.set_report.specs.ReportMade.{verdictOn, StartsHeld, ReportReady, outcomeOn, ReportMade}
+use Rattle.work_layout.specs.WorkLayout.{workEnd, memberRoom, classesAt, birthsAt, stepsAt, stepsEnd}
+use Rattle.work_layout.specs.ClassLayout.{classIn, classesIn, bornIn, fromIn}
+
+-- a set with two starts has a member
+pub starts-ready : {sheet : Sheet} {set : List Configuration} {w : List ℕ} {n m : ℕ} {p q : Configuration} → StartsHeld sheet set w n m p q
+    → SetReady sheet set w n m
+starts-ready {sheet} {set} {w} {n} {m} {p} S = record {
+  held = S .held;
+  wf = S .wf;
+  closed = S .closed;
+  ascends = S .ascends;
+  some = omega (arith, held-found sheet set w n m (S .held) p (S .left) .0);
+}
+
+pub report-ready : {w : List ℕ} {n m : ℕ} {p q : struct.Configuration} → ReportReady w n m p q → Ready w n m
+report-ready Y = record { sheet = Y .sheet; set = Y .set; ready = starts-ready (Y .starts) }
+
+-- the side of a step is a byte
+side-small : (s : Side) → sideByte s < 256
+side-small left = omega arith
+side-small right = omega arith
+
+-- ---- after the rounds
+module _ {sheet : Sheet} {set : List Configuration} {w : List ℕ} {n m r count : ℕ} (H : RoundsHeld sheet set w n m r count) where
+  trail-held : TrailHeld sheet set w n m (r + 1)
+  trail-held = record {
+    held = H .ready .held;
+    wf = H .ready .wf;
+    closed = H .ready .closed;
+    ascends = H .ready .ascends;
+    rounds-are = omega (arith, H .last);
+    first-apart = λ i j li lj. rw (add-one r) (rounds-apart H i j li lj);
+  }
+
+  births-held : BirthsHeld w n
+  births-held = record {
+    count = count;
+    few = omega (arith, classed-count (H .classed), H .ready .held .few .0);
+    classes = H .classed .known;
+    births = H .present .births;
+  }
+
+  -- the trail can be followed
+  pub rounds-follow : Followable w n (r + 1)
+  rounds-follow = record { sheet = sheet; set = set; m = m; held = trail-held; births = births-held }
+
+  -- a member that is looked for by its numbers stands at the place found, which is its place in the set
+  pub member-found : (y : Configuration) → List·Memᴰ y set → (x : Numbers) (i : ℕ) → PackedIn x × (standsFor x ≡ y) → FoundAt w n x i
+      → (i < n) × (memberAt w i ≡ y) × (placeOf set y ≡ i)
+  member-found y k x i e f =
+      let s = H .ready .held in
+      let z = f .found (held-ordered s (H .ready .ascends)) (e .0)
+      (subst (λ (l : List Configuration). List·Memᴰ (standsFor x) l) (sym (s .members))
+      (subst (λ (c : Configuration). List·Memᴰ c set) (sym (e .1)) k)) in
+      let same : memberAt w i ≡ y = z .1 ∙ e .1 in (
+        z .0,
+        same,
+        ap (placeOf set) (sym same) ∙ held-place sheet set w n m s (H .ready .ascends) i (z .0),
+      )
+
+  -- ---- steps stored behind the classes and births leave the rounds as they are
+  module _ {u : List ℕ} (S : SameOutside stepsAt stepsEnd w u) where
+    birth-same : (c : ℕ) → c < count → getD u (birthsAt + c) 0 ≡ getD w (birthsAt + c) 0
+    birth-same c l = S .at (birthsAt + c) (inr (omega (arith, classed-count (H .classed), H .ready .held .few .0)))
+
+    class-same : (i : ℕ) → i < n → classIn u i ≡ classIn w i
+    class-same i l = S .at (classesAt + i) (inr (omega (arith, H .ready .held .few .0)))
+
+    listed-same : (i : ℕ) → i < length set → getD (classesIn u n) i 0 ≡ getD (classesIn w n) i 0
+    listed-same i l =
+        let h : i < n = omega (arith, held-count sheet set w n m (H .ready .held)) in
+        tabulate-at (classIn u) n i 0 h ∙ class-same i h ∙ sym (tabulate-at (classIn w) n i 0 h)
+
+    pub rounds-kept : RoundsHeld sheet set u n m r count
+    rounds-kept = record {
+      ready = ready-same (H .ready) (same-set-low (omega arith) S);
+      present = present-alike (λ (i : ℕ). i < length set) (TogetherHeld sheet set) (fromIn w) (bornIn w) (fromIn u) (bornIn u) count r
+          (λ i. getD (classesIn w n) i 0) (λ i. getD (classesIn u n) i 0) (H .present)
+          (λ c l. ap (λ (x : ℕ). x / 65536) (birth-same c l)) (λ c l. ap (λ (x : ℕ). x % 65536) (birth-same c l)) listed-same;
+      last = H .last;
+      classed = classed-same (H .ready .held .few .0) (H .classed) (λ k h l. S .at k (inr (omega arith)));
+    }
+
+    -- classes can be numbered by first member
+    pub rounds-numbered : NumberReady u n
+    rounds-numbered = record {
+      count = count;
+      classed = rounds-kept .classed;
+      few = H .ready .held .few .0;
+      long = omega (arith, S .long, H .ready .held .long);
+    }
+
+-- ---- from the set to the report: w after the rounds, u with the trail from the places i and j, x with the report's classes
+module _ {v : List ℕ} {n m : ℕ} {w : List ℕ} {r count : ℕ} (R : Refined v n m w r count) {i j : ℕ} {u : List ℕ} {k : ℕ}
+    (T : Trailed w n (r + 1) i j u k) {x : List ℕ} (N : Renumbered u n x) where
+  -- nothing behind the work places is changed
+  pub report-outside : SameOutside 0 workEnd v x
+  report-outside =
+      outside-then (outside-then rounds (T .outside) 0 workEnd (omega arith) (omega arith) (omega arith) (omega arith)) (N .only) 0 workEnd
+      (omega arith) (omega arith) (omega arith) (omega arith)
+    where
+      rounds : SameOutside 0 workEnd v w
+      rounds = record { long = R .long; at = λ l o. side l o }
+        where
+          side : (l : ℕ) → (l < 0) ⊎ (workEnd ≤ l) → getD w l 0 ≡ getD v l 0
+          side l (inl h) = absurd (omega arith)
+          side l (inr h) = R .at-end l h
+
+  step-kept : k ≤ memberRoom → (l : ℕ) → l < k → stepIn x l ≡ stepIn u l
+  step-kept few l h =
+      let a = N .only .at (stepsAt + 3 * l) (inl (omega arith)) in
+      let b = N .only .at (stepsAt + 3 * l + 1) (inl (omega arith)) in
+      let c = N .only .at (stepsAt + 3 * l + 2) (inl (omega arith)) in
+      ap (λ (s : ℕ). record {
+        side = s;
+        label = getD x (stepsAt + 3 * l + 1) 0 / 65536;
+        target = getD x (stepsAt + 3 * l + 1) 0 % 65536;
+        reply = getD x (stepsAt + 3 * l + 2) 0;
+      }) a
+      ∙ ap₂ (λ (y z : ℕ). record { side = getD u (stepsAt + 3 * l) 0; label = y / 65536; target = y % 65536; reply = z }) b c
+
+  module _ {sheet : Sheet} {set : List Configuration} {p q : Configuration} (S : StartsHeld sheet set v n m p q) where
+    rounds-now : RoundsHeld sheet set w n m r count
+    rounds-now = R .rounds-held sheet set (starts-ready S)
+
+    numbered : SetHeld sheet set x n m × (classesIn x n ≡ classes sheet set r) × (getD (rounds sheet set) r [] ≡ classes sheet set r)
+    numbered = N .numbers sheet set m r count (rounds-kept rounds-now (T .outside))
+
+    steps-are : tabulate (stepIn x) k
+        ≡ map (stepNumbers set) (trail sheet set (rounds sheet set) (memberAt w i) (memberAt w j))
+    steps-are = tabulate-same (stepIn x) (stepIn u) k (step-kept (omega (arith, T .short, R .bounds, numbered .0 .few .0))) ∙ T .steps sheet set m (trail-held rounds-now)
+
+    -- the side of each step is a byte
+    side-byte : (l : ℕ) → l < k → sideIn x l < 256
+    side-byte l h =
+        let t : List TrailStep = trail sheet set (rounds sheet set) (memberAt w i) (memberAt w j) in
+        let d : TrailStep = record { side = left; label = 0; target = nobody; reply = none } in
+        let c : k ≡ length t =
+        sym (tabulate-length (stepIn x) k) ∙ ap length steps-are ∙ length-map t (stepNumbers set) in
+        let e : sideIn x l ≡ sideByte (getD t l d .side) =
+        ap (λ (s : StepNumbers). s .side)
+        (sym (tabulate-at (stepIn x) k l (stepIn x l) h) ∙ ap (λ (s : List StepNumbers). getD s l (stepIn x l)) steps-are
+        ∙ getD-image (stepNumbers set) t l d (stepIn x l) (omega arith)) in
+        omega (arith, e, side-small (getD t l d .side))
+
+    -- the report can be read from the slice
+    pub report-held : ReportHeld x n k
+    report-held = record {
+      members = record { long = numbered .0 .long; few = numbered .0 .few .0; packed = numbered .0 .packed };
+      steps = record {
+        long = numbered .0 .long;
+        few = omega (arith, T .short, R .bounds, numbered .0 .few .0);
+        sides = side-byte;
+      };
+    }
+
+    -- and is document 01's
+    pub report-agrees : memberAt w i ≡ p → memberAt w j ≡ q → Agrees (reportOn sheet set p q) x n k
+    unfolding reportOn
+    report-agrees ep eq = record {
+      members = numbered .0 .members;
+      ascending = S .ascends;
+      classes = λ l h.
+          let e : resultOf (rounds sheet set) ≡ r = omega (arith, rounds-now .last) in
+          sym (tabulate-at (classIn x) n l 0 h)
+          ∙ ap (λ (c : List ℕ). getD c l 0)
+          (numbered .1 ∙ sym (numbered .2) ∙ ap (λ (a : ℕ). getD (rounds sheet set) a []) (sym e));
+      steps = steps-are
+          ∙ ap₂ (λ (a b : Configuration). map (stepNumbers set) (trail sheet set (rounds sheet set) a b)) ep eq;
+    }
+
+-- ---- the verdict
+-- SAME where no round separates the two
+same-is : (b : Bool) → b ≡ isSame (cond b SAME DIFF)
+same-is true = refl
+same-is false = refl
+
+verdict-alike : (a b c d i j g h s t : ℕ) → a ≡ b → c ≡ d → i ≡ j → g ≡ h → s ≡ t → verdictOn a c i g s ≡ verdictOn b d j h t
+verdict-alike a b c d i j g h s t ea ec ei eg es =
+    ap₂ (λ (x y : ℕ). verdictOn x y i g s) ea ec ∙ ap₂ (λ (x y : ℕ). verdictOn b d x y s) ei eg ∙ ap (verdictOn b d j h) es
+
+-- from the first round that separates the starts, the number of rounds, the places and the length in bytes
+verdict-is : (sheet : Sheet) (set : List Configuration) (p q : Configuration)
+    → verdictOn (apartIn set (rounds sheet set) p q) (length (rounds sheet set)) (placeOf set p) (placeOf set q)
+    (reportLength (reportOn sheet set p q)) ≡ returnedOf (reportOn sheet set p q)
+unfolding reportOn
+verdict-is sheet set p q =
+    let a : ℕ = apartIn set (rounds sheet set) p q in
+    let l : ℕ = length (rounds sheet set) in
+    ap (λ (b : Bool). record {
+      same = b;
+      round = cond (eqb a l) (l - 1) a;
+      left = placeOf set p;
+      right = placeOf set q;
+      length = reportLength (reportOn sheet set p q);
+    }) (same-is (eqb a l))
+
+-- ---- the answer
+-- i and j are the places found for the starts; `size` is the length of the bytes that stand for the report
+module _ {v : List ℕ} {n m : ℕ} {w : List ℕ} {r count : ℕ} (R : Refined v n m w r count) {i j : ℕ} {u : List ℕ} {k : ℕ}
+    (T : Trailed w n (r + 1) i j u k) {x : List ℕ} (N : Renumbered u n x) (p q : struct.Configuration) (a b : Numbers)
+    (ea : PackedIn a × (standsFor a ≡ configuration p)) (fa : FoundAt w n a i)
+    (eb : PackedIn b × (standsFor b ≡ configuration q)) (fb : FoundAt w n b j)
+    (size : ℕ) (es : size ≡ length (heldBytes x n k)) (before : List ℕ) where
+  module _ (sheet : Sheet) (set : List Configuration) (S : StartsHeld sheet set v n m (configuration p) (configuration q)) where
+    abbrev made : spec.Report
+    made = reportOn sheet set (configuration p) (configuration q)
+
+    now-held : RoundsHeld sheet set w n m r count
+    now-held = R .rounds-held sheet set (starts-ready S)
+
+    left-at : (i < n) × (memberAt w i ≡ configuration p) × (placeOf set (configuration p) ≡ i)
+    left-at = member-found now-held (configuration p) (S .left) a i ea fa
+
+    right-at : (j < n) × (memberAt w j ≡ configuration q) × (placeOf set (configuration q) ≡ j)
+    right-at = member-found now-held (configuration q) (S .right) b j eb fb
+
+    bytes-are : heldBytes x n k ≡ reportBytes made
+    bytes-are = held-report made x n k (report-agrees R T N S (left-at .1) (right-at .1))
+
+    size-is : size ≡ reportLength made
+    size-is = es ∙ ap length bytes-are
+
+    outcome-refused : length before < size → outcomeOn sheet set (configuration p) (configuration q) (length before) ≡ refusal 22 size
+    outcome-refused h =
+        ap (λ (t : Bool). cond t (refusal 22 (reportLength made)) (reported made))
+        (lt-ltb (length before) (reportLength made) (omega (arith, size-is)))
+        ∙ ap (refusal 22) (sym size-is)
+
+    outcome-reported : size ≤ length before → outcomeOn sheet set (configuration p) (configuration q) (length before) ≡ reported made
+    outcome-reported h =
+        ap (λ (t : Bool). cond t (refusal 22 (reportLength made)) (reported made))
+        (le-ltb (length before) (reportLength made) (omega (arith, size-is)))
+
+    verdict-found : (apart : ℕ) → apart ≡ apartAt w (r + 1) i j → verdictOn apart (r + 1) i j size ≡ returnedOf made
+    verdict-found apart e =
+        let f : apart ≡ apartIn set (rounds sheet set) (configuration p) (configuration q) =
+        e ∙ trail-held now-held .first-apart i j (left-at .0) (right-at .0)
+        ∙ ap₂ (λ (y z : Configuration). apartIn set (rounds sheet set) y z) (left-at .1) (right-at .1) in
+        verdict-alike apart (apartIn set (rounds sheet set) (configuration p) (configuration q)) (r + 1) (length (rounds sheet set))
+        i (placeOf set (configuration p)) j (placeOf set (configuration q)) size (reportLength made)
+        f (omega (arith, now-held .last)) (sym (left-at .2)) (sym (right-at .2)) size-is
+        ∙ verdict-is sheet set (configuration p) (configuration q)
+
+  -- the answer slice is shorter than the report
+  pub made-refused : length before < size → ReportMade v before n m p q x before (Refused 22 size)
+  made-refused h = record {
+    outside = report-outside R T N;
+    answers = λ sheet set S. ap returned (sym (outcome-refused sheet set S h));
+    bytes = λ sheet set S. ap (λ (o : Compares). answerAfter o before) (sym (outcome-refused sheet set S h));
+  }
+
+  -- the report is written into the front of the answer slice
+  pub made-reported : size ≤ length before → (apart : ℕ) → apart ≡ apartAt w (r + 1) i j → (after : List ℕ)
+      → after ≡ heldBytes x n k ++ drop (length (heldBytes x n k)) before
+      → ReportMade v before n m p q x after (Report (verdictOn apart (r + 1) i j size))
+  made-reported h apart e after f = record {
+    outside = report-outside R T N;
+    answers = λ sheet set S. ap Report (verdict-found sheet set S apart e) ∙ ap returned (sym (outcome-reported sheet set S h));
+    bytes = λ sheet set S.
+        f ∙ ap (λ (l : List ℕ). l ++ drop (length l) before) (bytes-are sheet set S)
+        ∙ ap (λ (o : Compares). answerAfter o before) (sym (outcome-reported sheet set S h));
+  }

@@ -1,0 +1,58 @@
+// The report on a set that stands in the work slice: rounds, verdict, trail and answer bytes.
+use answers::Answer;
+use answers::Reported;
+use sheet_types::Configuration;
+ghost use mathlib.Core.Path.{_≡_};
+ghost use Prim.Native.Nat.{_<_};
+ghost use Rattle.set_report.specs.ReportMade.{verdictOn, ReportReady, ReportMade};
+
+// The verdict on two members that are first separated in round `apart` of `last` rounds.
+fn verdict_on(apart: usize, last: usize, left: usize, right: usize, length: usize) -> Reported
+    requires { ⌜ 0 < last ⌝ }
+    ensures { λ r. ⌜ r ≡ verdictOn apart last left right length ⌝ }
+{
+    if apart == last {
+        return Reported {
+            same: true,
+            round: last - 1,
+            left,
+            right,
+            length,
+        };
+    }
+    Reported {
+        same: false,
+        round: apart,
+        left,
+        right,
+        length,
+    }
+}
+
+// The report on the set of n members with m moves in the work slice, for the starts p and q; 22 where the answer slice is
+// shorter than it.
+pub fn report_set(
+    work: &mut [u32],
+    answer: &mut [u8],
+    n: usize,
+    m: usize,
+    p: Configuration,
+    q: Configuration,
+) -> Answer
+    requires { ⌜ ReportReady (now work) n m p q ⌝ }
+    ensures { λ r. ⌜ ReportMade (now (work .entry)) (now (answer .entry)) n m p q (now (work .exit)) (now (answer .exit)) r ⌝ }
+{
+    let rounds = class_rounds::refine(work, n, m);
+    let last = rounds.round + 1;
+    let left = dominators::find_member(work, n, p.numbers());
+    let right = dominators::find_member(work, n, q.numbers());
+    let apart = separations::apart_at(work, last, left, right);
+    let steps = trail_search::trail(work, n, last, left, right);
+    separations::number_classes(work, n);
+    let length = report_bytes::report_length(work, n, steps);
+    if answer.len() < length {
+        return Answer::Refused(refusals::SHORT_ANSWER, length);
+    }
+    report_bytes::put_report(work, n, steps, answer);
+    Answer::Report(verdict_on(apart, last, left, right, length))
+}

@@ -1,0 +1,9 @@
+pub mod Ranks
+pub mod NodeFields
+pub mod RecordLaws
+pub mod OpeningLaws
+pub mod Gets
+pub mod FieldLaws
+pub mod SectionLaws
+pub mod ReadingLaws
+pub mod RefusalNumbers

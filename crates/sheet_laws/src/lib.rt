@@ -1,0 +1,1 @@
+// Reading a sheet and opening its nodes: laws. No functions.

@@ -1,0 +1,3 @@
+pub mod HeldSheet
+pub mod SectionLaws
+pub mod AddedStore

@@ -1,0 +1,147 @@
+// How a sheet that was read is held: types, the limits of a sheet, and a configuration as three numbers and back.
+use packing::Numbers;
+ghost use mathlib.Core.Path.{_≡_};
+ghost use Prim.Native.Nat.{_≤_, _<_};
+ghost use lib.ListN.{length};
+ghost use lib.Bits.{bitOr};
+ghost use Rattle.moves.specs.Orders.{configurationBefore};
+ghost use Rattle.packing.specs.Packing.{standsFor, PackedIn};
+ghost use Rattle.sheet_types.specs.HeldSheet.{configuration};
+ghost use Rattle.sheet_types.specs.AddedStore.{joined};
+
+// What reading a field or a section gives: a value and the place after it, or the refusal's number and place.
+pub enum Section {
+    Got(u16, usize),
+    Refused(u8, usize),
+}
+
+// One store and at most eight threads, in ascending order.
+pub struct Configuration {
+    pub store: u16,
+    pub count: u8,
+    pub threads: [u8; 8],
+}
+
+impl Configuration {
+    // The three numbers that stand for it.
+    pub fn numbers(self) -> Numbers
+        requires { ⌜ self .count ≤ 8 ⌝ }
+        ensures { λ r. ⌜ PackedIn r × (standsFor r ≡ configuration self) ⌝ }
+    {
+        let threads = self.threads;
+        let count = self.count as usize;
+        packing::numbers_of(self.store, count, &threads)
+    }
+
+    // A constraint added: the configuration with the joined store, closed by the table of closures.
+    pub fn add(mut self, table: &[u32], b: u16) -> Configuration
+        requires { ⌜ bitOr b (self .store) < length (now table) ⌝ }
+        ensures { λ r. ⌜ r ≡ joined (now (table .entry)) b self ⌝ }
+    {
+        let sum = b | self.store;
+        self.store = closure_table::closure_at(table, sum);
+        self
+    }
+
+    // Whether it stands before the other in the order of configurations.
+    pub fn before(self, other: Configuration) -> bool
+        requires { ⌜ (self .count ≤ 8) × (other .count ≤ 8) ⌝ }
+        ensures { λ r. ⌜ r ≡ configurationBefore (configuration self) (configuration other) ⌝ }
+    {
+        let x = self.numbers();
+        let y = other.numbers();
+        x.compare(y) == 0
+    }
+}
+
+// The configuration that three numbers stand for.
+pub fn configuration_of(x: Numbers) -> Configuration
+    requires { ⌜ PackedIn x ⌝ }
+    ensures { λ r. ⌜ (configuration r ≡ standsFor x) × (r .count ≤ 8) ⌝ }
+{
+    let threads = packing::threads_of(x.b, x.c);
+    Configuration {
+        store: (x.a / 256) as u16,
+        count: (x.a % 256) as u8,
+        threads,
+    }
+}
+
+// Nodes by number: kind byte, first field (a set is closed) and second field.
+pub struct Nodes {
+    pub kinds: [u8; 64],
+    pub firsts: [u16; 64],
+    pub seconds: [u16; 64],
+}
+
+// The threads that node k opens to: counts[k] of them, from 8 k on.
+pub struct Opened {
+    pub counts: [u8; 64],
+    pub threads: [u8; 512],
+}
+
+// Rule i has its premise at 2 i and its conclusion at 2 i + 1.
+pub struct Sheet {
+    pub facts: u16,
+    pub rule_count: u16,
+    pub node_count: u16,
+    pub start_count: u16,
+    pub rules: [u16; 64],
+    pub nodes: Nodes,
+    pub opened: Opened,
+    pub starts: [Configuration; 16],
+}
+
+impl Sheet {
+    pub const MAX_FACTS: u16 = 12;
+
+    pub const MAX_RULES: u16 = 32;
+
+    pub const MIN_NODES: u16 = 1;
+
+    pub const MAX_NODES: u16 = 64;
+
+    pub const MIN_STARTS: u16 = 2;
+
+    pub const MAX_STARTS: u16 = 16;
+
+    pub const MAX_THREADS: u16 = 8;
+}
+
+// The answer of a section whose records stand beside it, since an enum holds no array.
+pub struct RulesRead {
+    pub answer: Section,
+    pub rules: [u16; 64],
+}
+
+pub struct NodeRead {
+    pub answer: Section,
+    pub first: u16,
+    pub second: u16,
+}
+
+pub struct NodesRead {
+    pub answer: Section,
+    pub nodes: Nodes,
+    pub opened: Opened,
+}
+
+pub struct ThreadsRead {
+    pub answer: Section,
+    pub threads: [u8; 8],
+}
+
+pub struct StartRead {
+    pub answer: Section,
+    pub start: Configuration,
+}
+
+pub struct StartsRead {
+    pub answer: Section,
+    pub starts: [Configuration; 16],
+}
+
+pub struct SheetRead {
+    pub answer: Section,
+    pub sheet: Sheet,
+}

@@ -1,0 +1,1 @@
+// Sets of facts, closure, join and the least store: laws. No functions.

@@ -1,0 +1,2 @@
+pub mod TellAskMoves
+pub mod TellAskLaws

@@ -1,0 +1,2 @@
+pub mod ThirdRule
+pub mod ThirdRuleLaws

@@ -1,0 +1,166 @@
+-- `trail` goes from pair to pair: the steps stored so far and those from the present pair are the trail of the definition.
+use borrow.Author.Needs.{needs}
+use native.Mathlib.Omega.{arith}
+use Prim.Native.Nat.{_-_}
+use mathlib.Core.Path.{ap, _∙_}
+use mathlib.Core.Logic.{⊎-elim}
+use borrow.Author.Tests.{eqb-true, eqb-false}
+use Rattle.trail_search.specs.FollowedTrail.{Following, following-first, following-stop-first, following-stop-never, following-end, follows-now}
+use Rattle.trail_search.specs.TrailTurn.{step-room, reply-fits, step-alone, step-on}
+use Rattle.trail_search.specs.TrailTests.{apart-fits}
+use lib.ListN.{length, length-set}
+use Rattle.trail_search.proofs.trail.Statement.{statement}
+use Rattle.trail_search.proofs.trail.Tie as tie
+
+abbrev Inv-loop : tie.InvT-loop
+Inv-loop w₀ n last p q left₀ right₀ k₀ w left right k = Following w₀ n last p q w left right k
+
+abbrev μ-loop : tie.MeasureT-loop
+μ-loop w₀ n last p q left₀ right₀ k₀ w left right k = last - k
+
+loop-holds : tie.Need-loop-holds Inv-loop μ-loop
+loop-holds c =
+    let P = c .before .pre in
+    let g = c .before .args in
+    following-first (g .work .now) (g .n) (g .last) (g .p) (g .q) (P .0) (P .1) (P .2)
+
+apart-at-requires : tie.Need-apart-at-requires Inv-loop μ-loop
+apart-at-requires c κs =
+    let P = c .before .before .before .before .pre in
+    let g = c .before .before .before .before .args in
+    let l = c .before .before .loop in
+    apart-fits (follows-now (g .work .now) (g .n) (g .last) (g .p) (g .q) (P .0) (P .1) (P .2) (l .work) (l .left) (l .right) (l .k) (l .inv))
+    (l .left) (l .right) (l .inv .lefts) (l .inv .rights)
+
+same-length : tie.Need-same-length Inv-loop μ-loop
+same-length c = c .before .before .before .before .loop .inv .outside .long
+
+returns : tie.Need-returns Inv-loop μ-loop
+returns c =
+    let P = c .before .before .before .before .before .before .pre in
+    let g = c .before .before .before .before .before .before .args in
+    let l = c .before .before .before .before .loop in
+    let a = c .before .apart-at in
+    ⊎-elim (λ x. following-stop-first (g .work .now) (g .n) (g .last) (g .p) (g .q) (P .0) (P .1) (P .2) (l .work) (l .left) (l .right) (l .k)
+    (l .inv) (a .result) (a .ensures) (x .taken))
+    (λ x. following-stop-never (g .work .now) (g .n) (g .last) (g .p) (g .q) (P .0) (P .1) (P .2) (l .work) (l .left) (l .right) (l .k)
+    (l .inv) (a .result) (a .ensures) (eqb-true (a .result) (g .last) (x .1 .taken))) (c .if1 .came)
+
+sub-take-move : tie.Need-sub-take-move Inv-loop μ-loop
+sub-take-move c = search needs
+
+take-move-requires : tie.Need-take-move-requires Inv-loop μ-loop
+take-move-requires c κs =
+    let P = c .before .before .before .before .before .before .before .before .pre in
+    let g = c .before .before .before .before .before .before .before .before .args in
+    let l = c .before .before .before .before .before .before .loop in (
+      follows-now (g .work .now) (g .n) (g .last) (g .p) (g .q) (P .0) (P .1) (P .2) (l .work) (l .left) (l .right) (l .k)
+          (l .inv),
+      l .inv .lefts,
+      l .inv .rights,
+    )
+
+other-of-requires : tie.Need-other-of-requires Inv-loop μ-loop
+other-of-requires c κs = search needs
+
+reply-to-requires : tie.Need-reply-to-requires Inv-loop μ-loop
+reply-to-requires c κs =
+    let P = c .before .before .before .before .before .before .before .before .before .before .before .pre in
+    let g = c .before .before .before .before .before .before .before .before .before .before .before .args in
+    let l = c .before .before .before .before .before .before .before .before .before .loop in
+    let a = c .before .before .before .before .before .before .apart-at in
+    let t = c .before .before .take-move in
+    let o = c .other-of in
+    reply-fits (g .work .now) (g .n) (g .last) (g .p) (g .q) (P .0) (P .1) (P .2) (l .work) (l .left) (l .right) (l .k) (l .inv) (a .result)
+    (t .result .side) (t .result .number) (o .result) (a .ensures) (t .ensures) (o .ensures)
+
+put-step-requires : tie.Need-put-step-requires Inv-loop μ-loop
+put-step-requires c κs =
+    let P = c .before .before .before .before .before .before .before .before .before .before .before .before .before .pre in
+    let g = c .before .before .before .before .before .before .before .before .before .before .before .before .before .args in
+    let l = c .before .before .before .before .before .before .before .before .before .before .before .loop in
+    step-room (g .work .now) (g .n) (g .last) (g .p) (g .q) (P .0) (P .1) (P .2) (l .work) (l .left) (l .right) (l .k) (l .inv) (omega arith)
+
+add-k : tie.Need-add-k Inv-loop μ-loop
+add-k c = search needs
+
+same-length-2 : tie.Need-same-length-2 Inv-loop μ-loop
+same-length-2 c =
+    let l = c .before .before .before .before .before .before .before .before .before .before .before .before .before .before .before .loop in
+    ap length (c .before .before .before .put-step .ensures) ∙ simp length-set (l .inv .outside .long)
+
+returns-2 : tie.Need-returns-2 Inv-loop μ-loop
+returns-2 c =
+    let b = c .before .before .before .before .before .before .before .before in
+    let P = b .before .before .before .before .before .before .before .before .before .pre in
+    let g = b .before .before .before .before .before .before .before .before .before .args in
+    let l = b .before .before .before .before .before .before .before .loop in
+    let a = b .before .before .before .before .apart-at in
+    let t = b .take-move in
+    let o = c .before .before .before .before .before .before .other-of in
+    let y = c .before .before .before .before .before .reply-to in
+    let s = c .before .before .before .put-step in
+    step-alone (g .work .now) (g .n) (g .last) (g .p) (g .q) (P .0) (P .1) (P .2) (l .work) (l .left) (l .right) (l .k) (l .inv)
+    (a .result) (t .result .side) (t .result .number) (o .result) (a .ensures) (t .ensures) (o .ensures)
+    (y .result) (s .last .0)
+    (b .before .before .before .before .before .before .loop-test .taken) (b .before .before .before .if1 .left) (eqb-false (a .result)
+    (g .last) (b .before .before .if2 .left)) (y .ensures) (s .ensures) (c .if3 .taken)
+
+next-pair-requires : tie.Need-next-pair-requires Inv-loop μ-loop
+next-pair-requires c κs = search needs
+
+loop-less : tie.Need-loop-less Inv-loop μ-loop
+loop-less c = omega arith
+
+loop-again : tie.Need-loop-again Inv-loop μ-loop
+loop-again c =
+    let b = c .before .before .before .before .before .before .before .before .before in
+    let P = b .before .before .before .before .before .before .before .before .before .pre in
+    let g = b .before .before .before .before .before .before .before .before .before .args in
+    let l = b .before .before .before .before .before .before .before .loop in
+    let a = b .before .before .before .before .apart-at in
+    let t = b .take-move in
+    let o = c .before .before .before .before .before .before .before .other-of in
+    let y = c .before .before .before .before .before .before .reply-to in
+    let s = c .before .before .before .before .put-step in
+    let x = c .next-pair in
+    step-on (g .work .now) (g .n) (g .last) (g .p) (g .q) (P .0) (P .1) (P .2) (l .work) (l .left) (l .right) (l .k) (l .inv)
+    (a .result) (t .result .side) (t .result .number) (o .result) (a .ensures) (t .ensures) (o .ensures)
+    (y .result) (s .last .0)
+    (b .before .before .before .before .before .before .loop-test .taken) (b .before .before .before .if1 .left) (eqb-false (a .result)
+    (g .last) (b .before .before .if2 .left)) (y .ensures) (s .ensures) (c .before .if3 .left) (x .result .left) (x .result .right)
+    (x .ensures .0) (x .ensures .1)
+
+same-length-3 : tie.Need-same-length-3 Inv-loop μ-loop
+same-length-3 c = c .before .loop .inv .outside .long
+
+returns-3 : tie.Need-returns-3 Inv-loop μ-loop
+returns-3 c =
+    let P = c .before .before .before .pre in
+    let g = c .before .before .before .args in
+    let l = c .before .loop in
+    following-end (g .work .now) (g .n) (g .last) (g .p) (g .q) (P .0) (P .1) (P .2) (l .work) (l .left) (l .right) (l .k) (l .inv) (omega arith)
+
+pub trail-spec : {M : Type 1} → statement M
+trail-spec =
+    tie.close
+    (tie.spec
+    Inv-loop
+    μ-loop
+    loop-holds
+    apart-at-requires
+    same-length
+    returns
+    sub-take-move
+    take-move-requires
+    other-of-requires
+    reply-to-requires
+    put-step-requires
+    add-k
+    same-length-2
+    returns-2
+    next-pair-requires
+    loop-less
+    loop-again
+    same-length-3
+    returns-3)

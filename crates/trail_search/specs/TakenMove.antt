@@ -1,0 +1,236 @@
+-- The move that is taken at a pair and the step that it makes, by places.
+use mathlib.Core.Path.{_≡_, refl, sym, ap, ap₂, _∙_, subst}
+use mathlib.Core.Bool.{true, cond, not, _&&_, _||_}
+use mathlib.Core.List.{List, [], _∷_, map, List·Memᴰ, List·Memᴰ·not-nil}
+use Prim.Native.Nat.{ℕ, zero, suc, _-_, _/_, _%_, _≤_, _<_}
+use native.Mathlib.Omega.{arith}
+use lib.ListN.{length, getD}
+use lib.Dec.{eqb}
+use borrow.Author.Tests.{eq-eqb, ne-eqb, lt-ltb, le-ltb}
+use Rattle.list_laws.specs.TestLaws.{true-false, and-intro, or-left, or-right, or-fails, not-passes, Tested, tested, passes, fails}
+use Rattle.list_laws.specs.Members.{select-mem, all-of}
+use Rattle.sheets.specs.Sheet.{Configuration, Sheet}
+use Rattle.moves.specs.Orders.{Move}
+use Rattle.moves.specs.Moves.{moves}
+use Rattle.work_layout.specs.SetLayout.{memberAt, firstMove, moveTotal, moveFrom}
+use Rattle.comparison.specs.Classes.{placeOf, share}
+use Rattle.comparison.specs.Rounds.{redundant, answers, answered, together, rounds, apartIn}
+use Rattle.comparison.specs.Trail.{left, right, Reply, none, move, TrailStep, unanswered, replyTo, after, firstOf, trailFrom}
+use Rattle.comparison_laws.specs.RoundLaws.{together-yes}
+use Rattle.comparison_laws.specs.TrailLaws.{apart-le, trail-none}
+use Rattle.kept_classes.specs.RoundLayout.{held-in, held-place, number-in}
+use Rattle.report_bytes.specs.ReportInSlice.{StepNumbers, stepNumbers}
+use Rattle.trail_search.specs.PlaceTests.{First}
+use Rattle.trail_search.specs.TrailLayout.{apartAt, TrailHeld}
+use Rattle.trail_search.specs.TrailPlaces.{moveNumber, tellsAt, sharing-held, share-before, untold-none, untold-first}
+use Rattle.trail_search.specs.Replies.{replyAt, StandsFor, for-none, for-move, reply-stands}
+
+-- The move that is taken at the pair of places p and q in round r: the left's first one that tells, else the right's. Where
+-- neither has one, the right's with number 0.
+pub data Takes (w : List ℕ) (n last r p q side number : ℕ) : Type 0 where
+  from-left : (j : ℕ) → First (tellsAt w n last r (firstMove w p) q) (moveTotal w p) j → j < moveTotal w p
+      → side ≡ 0 → number ≡ moveNumber w p j → Takes w n last r p q side number
+  from-right : First (tellsAt w n last r (firstMove w p) q) (moveTotal w p) (moveTotal w p)
+      → (j : ℕ) → First (tellsAt w n last r (firstMove w q) p) (moveTotal w q) j → j < moveTotal w q
+      → side ≡ 1 → number ≡ moveNumber w q j → Takes w n last r p q side number
+  from-none : First (tellsAt w n last r (firstMove w p) q) (moveTotal w p) (moveTotal w p)
+      → First (tellsAt w n last r (firstMove w q) p) (moveTotal w q) (moveTotal w q)
+      → side ≡ 1 → number ≡ 0 → Takes w n last r p q side number
+
+-- the numbers of a step with this side, this move and this reply
+abbrev pub stepOf : ℕ → ℕ → ℕ → StepNumbers
+stepOf side number reply = record { side = side; label = number / 65536; target = number % 65536; reply = reply }
+
+-- the place of the one that replies
+abbrev pub otherOf : ℕ → ℕ → ℕ → ℕ
+otherOf side p q = cond (eqb side 0) q p
+
+-- the places of the new pair: sides are kept
+abbrev pub nextLeft : ℕ → ℕ → ℕ → ℕ
+nextLeft side number reply = cond (eqb side 0) (number % 65536) reply
+
+abbrev pub nextRight : ℕ → ℕ → ℕ → ℕ
+nextRight side number reply = cond (eqb side 0) reply (number % 65536)
+
+module _ {sheet : Sheet} {set : List Configuration} {w : List ℕ} {n m last : ℕ} (T : TrailHeld sheet set w n m last) where
+  abbrev rs : List (List ℕ)
+  rs = rounds sheet set
+
+  -- the target of a move that is taken is a member
+  pub takes-target : {r p q side number : ℕ} → p < n → q < n → Takes w n last r p q side number → number % 65536 < n
+  takes-target {r} {p} {q} {side} {number} lp lq (from-left j F l s e) =
+      subst (λ (y : ℕ). y % 65536 < n) (sym e)
+      (T .held .targets p (moveNumber w p j) lp (number-in sheet set w n m (T .held) p j lp l))
+  takes-target {r} {p} {q} {side} {number} lp lq (from-right G j F l s e) =
+      subst (λ (y : ℕ). y % 65536 < n) (sym e)
+      (T .held .targets q (moveNumber w q j) lq (number-in sheet set w n m (T .held) q j lq l))
+  takes-target lp lq (from-none G F s e) = omega arith
+
+  -- every irredundant move has an answer where none is left without
+  all-answered : (classes : List ℕ) (p q : Configuration) → unanswered sheet set rs classes p q ≡ [] → answered sheet set classes p q ≡ true
+  all-answered classes p q e =
+      all-of (λ a. redundant sheet set classes p a || answers sheet set classes q a) (moves sheet p)
+      (λ a i. go a i (tested (redundant sheet set classes p a)) (tested (answers sheet set classes q a)))
+    where
+      go : (a : Move) → List·Memᴰ a (moves sheet p) → Tested (redundant sheet set classes p a) → Tested (answers sheet set classes q a)
+          → (redundant sheet set classes p a || answers sheet set classes q a) ≡ true
+      go a i (passes h) t = or-left (answers sheet set classes q a) h
+      go a i (fails h) (passes k) = or-right (redundant sheet set classes p a) k
+      go a i (fails h) (fails k) =
+          absurd (List·Memᴰ·not-nil (subst (λ (ms : List Move). List·Memᴰ a ms) e
+          (select-mem (λ b. not (redundant sheet set classes p b) && not (answers sheet set classes q b)) (moves sheet p) {a = a} i
+          (and-intro (not-passes h) (not-passes k)))))
+
+  module _ (p q : ℕ) (lp : p < n) (lq : q < n) (some : apartAt w last p q ≡ 0 → ⊥) (early : apartAt w last p q ≡ last → ⊥) where
+    -- the round in which a move is looked for
+    abbrev round : ℕ
+    round = apartAt w last p q - 1
+
+    apart-early : apartAt w last p q < last
+    apart-early = omega (arith, T .first-apart p q lp lq, apart-le set rs (memberAt w p) (memberAt w q), T .rounds-are, early)
+
+    round-early : round < last
+    round-early = omega (arith, apart-early)
+
+    -- one of the two has a move that tells
+    one-tells : unanswered sheet set rs (getD rs round []) (memberAt w p) (memberAt w q) ≡ []
+        → unanswered sheet set rs (getD rs round []) (memberAt w q) (memberAt w p) ≡ [] → ⊥
+    one-tells e f =
+        let P : Configuration = memberAt w p in
+        let Q : Configuration = memberAt w q in
+        let a : ℕ = apartAt w last p q in
+        let s : suc round ≡ a = omega (arith, some) in
+        let mp = held-in sheet set w n m (T .held) p lp in
+        let mq = held-in sheet set w n m (T .held) q lq in
+        let t : together sheet set (getD rs round []) P Q ≡ true =
+        and-intro (share-before T round p q round-early lp lq ∙ lt-ltb round a (omega arith))
+        (and-intro (all-answered (getD rs round []) P Q e) (all-answered (getD rs round []) Q P f)) in
+        let g = together-yes sheet (T .wf) set (T .closed) (getD rs round []) round (sharing-held T round p round-early lp) P Q mp mq t in
+        true-false (share set (getD rs (suc round) []) P Q)
+        (sharing-held T (suc round) p (omega (arith, apart-early)) lp .from-round P Q mp mq g)
+        (share-before T (suc round) p q (omega (arith, apart-early)) lp lq ∙ le-ltb (suc round) a (omega arith))
+
+    -- the trail at the pair
+    trail-opens : (f : ℕ) → trailFrom sheet set rs (suc f) (memberAt w p) (memberAt w q)
+        ≡ firstOf sheet set rs (trailFrom sheet set rs f) (memberAt w p) (memberAt w q)
+        (unanswered sheet set rs (getD rs round []) (memberAt w p) (memberAt w q))
+        (unanswered sheet set rs (getD rs round []) (memberAt w q) (memberAt w p))
+    unfolding trailFrom
+    trail-opens f = opens (apartAt w last p q) (sym (T .first-apart p q lp lq)) some early
+      where
+        opens : (a : ℕ) → apartIn set rs (memberAt w p) (memberAt w q) ≡ a → (a ≡ 0 → ⊥) → (a ≡ last → ⊥)
+            → trailFrom sheet set rs (suc f) (memberAt w p) (memberAt w q)
+            ≡ firstOf sheet set rs (trailFrom sheet set rs f) (memberAt w p) (memberAt w q)
+            (unanswered sheet set rs (getD rs (a - 1) []) (memberAt w p) (memberAt w q))
+            (unanswered sheet set rs (getD rs (a - 1) []) (memberAt w q) (memberAt w p))
+        opens a e z l =
+            subst (λ (i : ℕ). trailFrom sheet set rs (suc f) (memberAt w p) (memberAt w q)
+            ≡ firstOf sheet set rs (trailFrom sheet set rs f) (memberAt w p) (memberAt w q)
+            (unanswered sheet set rs (getD rs (i - 1) []) (memberAt w p) (memberAt w q))
+            (unanswered sheet set rs (getD rs (i - 1) []) (memberAt w q) (memberAt w p))) e
+            (rw (
+              or-fails (ne-eqb (apartIn set rs (memberAt w p) (memberAt w q)) 0 (λ i. z (sym e ∙ i)))
+                  (ne-eqb (apartIn set rs (memberAt w p) (memberAt w q)) (length rs) (λ i. l (sym e ∙ i ∙ T .rounds-are))),
+              trailFrom,
+            ))
+
+    -- ---- a step and what follows it
+    -- The steps are the one with this side, move and reply, and those from the new pair where there is a reply.
+    pub record Followed (f side y u : ℕ) (steps : List TrailStep) : Type 0 where
+      pub alone : u ≡ 65535 → map (stepNumbers set) steps ≡ stepOf side y u ∷ []
+      pub inside : (u ≡ 65535 → ⊥) → u < n
+      pub on : (u ≡ 65535 → ⊥)
+          → map (stepNumbers set) steps
+          ≡ stepOf side y u
+          ∷ map (stepNumbers set) (trailFrom sheet set rs f (memberAt w (nextLeft side y u)) (memberAt w (nextRight side y u)))
+
+    module _ (f y u : ℕ) (ly : y % 65536 < n) where
+      place-y : placeOf set (memberAt w (y % 65536)) ≡ y % 65536
+      place-y = held-place sheet set w n m (T .held) (T .ascends) (y % 65536) ly
+
+      left-after : (k : Reply) → StandsFor w n k u → Followed f 0 y u (after sheet set rs (trailFrom sheet set rs f) left (moveFrom w y) k)
+      left-after k (for-none e z) =
+          subst (λ (r : Reply). Followed f 0 y u (after sheet set rs (trailFrom sheet set rs f) left (moveFrom w y) r)) (sym e) (record {
+            alone = λ _. ap₂ (λ (t v : ℕ). record { side = 0; label = y / 65536; target = t; reply = v } ∷ []) place-y (sym z);
+            inside = λ d. absurd (d z);
+            on = λ d. absurd (d z);
+          })
+      left-after k (for-move a e l t) =
+          let few : n ≤ 512 = T .held .few .0 in
+          let g : placeOf set (a .target) ≡ u = ap (placeOf set) t ∙ held-place sheet set w n m (T .held) (T .ascends) u l in
+          subst (λ (r : Reply). Followed f 0 y u (after sheet set rs (trailFrom sheet set rs f) left (moveFrom w y) r)) (sym e) (record {
+            alone = λ z. absurd (omega arith);
+            inside = λ d. l;
+            on = λ d.
+                ap₂ (λ (s : StepNumbers) (c : Configuration). s
+                ∷ map (stepNumbers set) (trailFrom sheet set rs f (memberAt w (y % 65536)) c))
+                (ap₂ (λ (i v : ℕ). record { side = 0; label = y / 65536; target = i; reply = v }) place-y g) t;
+          })
+
+      right-after : (k : Reply) → StandsFor w n k u
+          → Followed f 1 y u (after sheet set rs (trailFrom sheet set rs f) right (moveFrom w y) k)
+      right-after k (for-none e z) =
+          subst (λ (r : Reply). Followed f 1 y u (after sheet set rs (trailFrom sheet set rs f) right (moveFrom w y) r)) (sym e) (record {
+            alone = λ _. ap₂ (λ (t v : ℕ). record { side = 1; label = y / 65536; target = t; reply = v } ∷ []) place-y (sym z);
+            inside = λ d. absurd (d z);
+            on = λ d. absurd (d z);
+          })
+      right-after k (for-move a e l t) =
+          let few : n ≤ 512 = T .held .few .0 in
+          let g : placeOf set (a .target) ≡ u = ap (placeOf set) t ∙ held-place sheet set w n m (T .held) (T .ascends) u l in
+          subst (λ (r : Reply). Followed f 1 y u (after sheet set rs (trailFrom sheet set rs f) right (moveFrom w y) r)) (sym e) (record {
+            alone = λ z. absurd (omega arith);
+            inside = λ d. l;
+            on = λ d.
+                ap₂ (λ (s : StepNumbers) (c : Configuration). s
+                ∷ map (stepNumbers set) (trailFrom sheet set rs f c (memberAt w (y % 65536))))
+                (ap₂ (λ (i v : ℕ). record { side = 1; label = y / 65536; target = i; reply = v }) place-y g) t;
+          })
+
+    -- the step that is taken begins the trail from the pair
+    pub step-follows : (f side y : ℕ) → Takes w n last round p q side y
+        → Followed f side y (replyAt w last y (otherOf side p q)) (trailFrom sheet set rs (suc f) (memberAt w p) (memberAt w q))
+    step-follows f side y t = go t (takes-target lp lq t)
+      where
+        go : Takes w n last round p q side y → y % 65536 < n
+            → Followed f side y (replyAt w last y (otherOf side p q)) (trailFrom sheet set rs (suc f) (memberAt w p) (memberAt w q))
+        go (from-left j F l s e) ly =
+            let x = untold-first T round p q round-early lp lq j F l in
+            subst (λ (i : ℕ). Followed f i y (replyAt w last y (otherOf i p q))
+            (trailFrom sheet set rs (suc f) (memberAt w p) (memberAt w q)))
+            (sym s)
+            (subst (Followed f 0 y (replyAt w last y q))
+            (sym (trail-opens f
+            ∙ ap (λ (ms : List Move). firstOf sheet set rs (trailFrom sheet set rs f) (memberAt w p) (memberAt w q) ms
+            (unanswered sheet set rs (getD rs round []) (memberAt w q) (memberAt w p)))
+            (x .1 ∙ ap (λ (i : ℕ). moveFrom w i ∷ x .0) (sym e))))
+            (left-after f y (replyAt w last y q) ly (replyTo sheet set rs (memberAt w q) (moveFrom w y)) (reply-stands T y q ly lq)))
+        go (from-right G j F l s e) ly =
+            let x = untold-first T round q p round-early lq lp j F l in
+            subst (λ (i : ℕ). Followed f i y (replyAt w last y (otherOf i p q))
+            (trailFrom sheet set rs (suc f) (memberAt w p) (memberAt w q)))
+            (sym s)
+            (subst (Followed f 1 y (replyAt w last y p))
+            (sym (trail-opens f
+            ∙ ap₂ (λ (ms ks : List Move). firstOf sheet set rs (trailFrom sheet set rs f) (memberAt w p) (memberAt w q) ms ks)
+            (untold-none T round p q round-early lp lq G) (x .1 ∙ ap (λ (i : ℕ). moveFrom w i ∷ x .0) (sym e))))
+            (right-after f y (replyAt w last y p) ly (replyTo sheet set rs (memberAt w p) (moveFrom w y)) (reply-stands T y p ly lp)))
+        go (from-none G F s e) ly =
+            absurd (one-tells (untold-none T round p q round-early lp lq G) (untold-none T round q p round-early lq lp F))
+
+  -- ---- where the trail ends
+  pub trail-apart-never : (f p q : ℕ) → p < n → q < n → apartAt w last p q ≡ last
+      → trailFrom sheet set rs f (memberAt w p) (memberAt w q) ≡ []
+  trail-apart-never f p q lp lq e =
+      trail-none sheet set rs f (memberAt w p) (memberAt w q) (sym (T .first-apart p q lp lq) ∙ e ∙ sym (T .rounds-are))
+
+  pub trail-apart-first : (f p q : ℕ) → p < n → q < n → apartAt w last p q ≡ 0
+      → trailFrom sheet set rs f (memberAt w p) (memberAt w q) ≡ []
+  unfolding trailFrom
+  trail-apart-first zero p q lp lq e = refl
+  trail-apart-first (suc f) p q lp lq e =
+      rw (
+        or-left (eqb (apartIn set rs (memberAt w p) (memberAt w q)) (length rs))
+            (eq-eqb (apartIn set rs (memberAt w p) (memberAt w q)) 0 (sym (T .first-apart p q lp lq) ∙ e)),
+        trailFrom,
+      )

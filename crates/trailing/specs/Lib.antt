@@ -1,9 +1,0 @@
-pub mod PlaceTests
-pub mod TrailHeld
-pub mod TrailPlaces
-pub mod Replies
-pub mod Taking
-pub mod Following
-pub mod Judging
-pub mod Stepping
-pub mod TrailReport

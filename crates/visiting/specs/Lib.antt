@@ -1,3 +1,0 @@
-pub mod Visits
-pub mod MarkLaws
-pub mod VisitLaws

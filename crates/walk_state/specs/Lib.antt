@@ -1,0 +1,3 @@
+pub mod WalkState
+pub mod PushedInWalk
+pub mod NotedInWalk

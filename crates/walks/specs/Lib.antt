@@ -1,3 +1,0 @@
-pub mod Walking
-pub mod PushedLaws
-pub mod NotedLaws

@@ -1,0 +1,3 @@
+pub mod WorkLayout
+pub mod SetLayout
+pub mod ClassLayout
