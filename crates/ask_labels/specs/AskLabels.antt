@@ -24,11 +24,6 @@ pub record LabelsAre (w : List ℕ) (facts d c : ℕ) (found : List ℕ) : Type 
   pub are : (sheet : Sheet) → sheet .facts ≡ facts → Closures (sheet .rules) 0 (2 ^ facts) w → conclusions (sheet .rules) < 2 ^ facts
       → found ≡ labels sheet d c
 
--- v is w but for places from `low` on and before `high`
-pub record SameOutside (low high : ℕ) (w v : List ℕ) : Type 0 where
-  pub long : length v ≡ length w
-  pub same : (i : ℕ) → (i < low) ⊎ (high ≤ i) → getD v i 0 ≡ getD w i 0
-
 -- a table of closures, a store d of its facts, and behind the table, from `at` on, room for labels and one number more
 pub record LabelRoom (facts d at : ℕ) (w : List ℕ) : Type 0 where
   pub few : facts ≤ 12

@@ -21,34 +21,13 @@ use Rattle.sheets.specs.Sheet.{Sheet}
 use Rattle.moves.specs.Moves.{labels}
 use Rattle.move_laws.specs.LabelLaws.{label-constraint, labels-few, labels-within}
 use Rattle.closure_table.specs.ClosureTable.{Closures, closures-agree}
+use Rattle.list_laws.specs.Frames.{SameOutside, outside-same, outside-again, outside-wider, outside-set}
 use Rattle.ask_labels.specs.FactsOutside.{Has, has-or, or-above}
 use Rattle.ask_labels.specs.LabelOrder.{labels-ascend}
-use Rattle.ask_labels.specs.AskLabels.{TableOf, LabelsAre, LabelRoom, SameOutside, part, isNext, Found, FoundBelow}
+use Rattle.ask_labels.specs.AskLabels.{TableOf, LabelsAre, LabelRoom, part, isNext, Found, FoundBelow}
 use Rattle.ask_labels.specs.FoundLabelLaws.{found-none, found-next}
 
 -- ---- slices that agree
-pub same-all : (low high : ℕ) (w : List ℕ) → SameOutside low high w w
-same-all low high w = record { long = refl; same = λ i h. refl }
-
-pub same-trans : {low high : ℕ} {u v w : List ℕ} → SameOutside low high u v → SameOutside low high v w → SameOutside low high u w
-same-trans h k = record { long = k .long ∙ h .long; same = λ i o. k .same i o ∙ h .same i o }
-
--- what agrees outside a part agrees outside a wider one
-pub same-wider : {low high : ℕ} {w v : List ℕ} (low' high' : ℕ) → low' ≤ low → high ≤ high' → SameOutside low high w v
-    → SameOutside low' high' w v
-same-wider {low} {high} low' high' l k h =
-    record {
-      long = h .long;
-      same = λ i o. h .same i (⊎-elim (λ (q : i < low'). inl (omega arith)) (λ (q : high' ≤ i). inr (omega arith)) o);
-    }
-
-pub same-set : (low high : ℕ) (w : List ℕ) (i x : ℕ) → low ≤ i → i < high → SameOutside low high w (set w i x)
-same-set low high w i x l k =
-    record {
-      long = length-set w i x;
-      same = λ j o. getD-set-other w i j x 0 (λ e. ⊎-elim (λ (q : j < low). omega arith) (λ (q : high ≤ j). omega arith) o);
-    }
-
 -- a part depends on its own numbers only
 pub part-agree : (w v : List ℕ) (first end : ℕ) → length v ≡ length w → ((i : ℕ) → first ≤ i → i < end → getD v i 0 ≡ getD w i 0)
     → part v first end ≡ part w first end
@@ -157,7 +136,7 @@ module _ (facts d c at : ℕ) (w : List ℕ) (r : LabelRoom facts d at w) where
         found = record { are = λ sheet e t fit. found-none sheet d c };
         long = refl;
         few = omega arith;
-        same = same-all at (at + 2 ^ facts / 2 + 2) w;
+        same = outside-same at (at + 2 ^ facts / 2 + 2) w;
       }
 
   pub scanned-next : (v n k : ℕ) (u : List ℕ) → Scanned facts d c at w v n u → v < 2 ^ facts
@@ -174,10 +153,10 @@ module _ (facts d c at : ℕ) (w : List ℕ) (r : LabelRoom facts d at w) where
       }
     where
       own : getD u (v - d) 0 ≡ getD w (v - d) 0
-      own = h .same .same (v - d) (inl (omega (arith, r .behind)))
+      own = h .same .at (v - d) (inl (omega (arith, r .behind)))
 
       joined : getD u v 0 ≡ getD w v 0
-      joined = h .same .same v (inl (omega (arith, r .behind)))
+      joined = h .same .at v (inl (omega (arith, r .behind)))
 
       tail : n + k ≤ length (drop at u)
       tail = simp length-drop (omega (arith, r .room, h .few, h .long))
@@ -203,7 +182,7 @@ module _ (facts d c at : ℕ) (w : List ℕ) (r : LabelRoom facts d at w) where
           (rw (drop-set-add at u n (getD u (v - d) 0)) (omega (arith, tail, length-set (drop at u) n (getD u (v - d) 0))))
 
       same : SameOutside at (at + 2 ^ facts / 2 + 2) w (set u (at + n) (getD u (v - d) 0))
-      same = same-trans (h .same) (same-set at (at + 2 ^ facts / 2 + 2) u (at + n) (getD u (v - d) 0) (omega arith) (omega (arith, h .few)))
+      same = outside-again (h .same) (outside-set at (at + 2 ^ facts / 2 + 2) u (at + n) (getD u (v - d) 0) (omega arith) (omega (arith, h .few)))
 
   -- ---- the labels found, put in order
   module _ (n : ℕ) (u : List ℕ) (few : n ≤ 2 ^ facts / 2 + 1) where
@@ -223,9 +202,7 @@ module _ (facts d c at : ℕ) (w : List ℕ) (r : LabelRoom facts d at w) where
 
       pub sorted-same : SameOutside at (at + 2 ^ facts / 2 + 2) w u → SameOutside at (at + 2 ^ facts / 2 + 2) w v
       sorted-same h =
-          same-trans h
-          (same-wider at (at + 2 ^ facts / 2 + 2) (omega arith) (omega arith)
-          (record { long = s .outside .long; same = λ i o. s .outside .at i o }))
+          outside-again h (outside-wider (s .outside) at (at + 2 ^ facts / 2 + 2) (omega arith) (omega arith))
 
   -- where c is inside d, the closure of the empty set alone
   pub least-alone : bitAnd c d ≡ c → LabelsAre w facts d c (take 1 (drop at (set w at (getD w 0 0))))

@@ -6,7 +6,8 @@ use Prim.Native.Nat.{ℕ, _+_, _*_, _-_, _/_, _^_, _≤_, _<_}
 use lib.ListN.{length, getD, set}
 use Rattle.ask_labels.specs.declared.Shelf.{Shelf}
 use Rattle.ask_labels.specs.declared.Labelled.{Labelled}
-use Rattle.ask_labels.specs.AskLabels.{TableOf, LabelsAre, SameOutside, part}
+use Rattle.list_laws.specs.Frames.{SameOutside}
+use Rattle.ask_labels.specs.AskLabels.{TableOf, LabelsAre, part}
 use Rattle.work_layout.specs.WorkLayout.{headsAt, listsAt, listsEnd}
 
 -- how many entries there are at most

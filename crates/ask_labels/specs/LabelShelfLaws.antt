@@ -14,8 +14,9 @@ use Rattle.ask_labels.specs.declared.Shelf.{Shelf}
 use Rattle.ask_labels.specs.declared.Labelled.{Labelled}
 use Rattle.ask_labels.specs.FactsOutside.{outside}
 use Rattle.ask_labels.specs.LabelOrder.{labels-missing}
-use Rattle.ask_labels.specs.AskLabels.{LabelsAre, SameOutside, part}
-use Rattle.ask_labels.specs.LabelScanLaws.{same-all, same-trans, same-wider, same-set, part-agree, labels-agree, table-agree}
+use Rattle.list_laws.specs.Frames.{SameOutside, outside-same, outside-again, outside-wider, outside-set}
+use Rattle.ask_labels.specs.AskLabels.{LabelsAre, part}
+use Rattle.ask_labels.specs.LabelScanLaws.{part-agree, labels-agree, table-agree}
 use Rattle.ask_labels.specs.LabelShelf.{maxSets, askedOf, firstOf, endOf, putEntry, EntryAt, Shelved, noEntries, HasRoom, ShelfRoom, LabelsGiven}
 use Rattle.work_layout.specs.WorkLayout.{headsAt, listsAt, listsEnd}
 
@@ -83,7 +84,7 @@ module _ (w v : List ℕ) (facts d : ℕ) where
   room-agree s h =
       record {
         few = h .few;
-        table = table-agree v (h .table) (λ i l. s .same i (inl (omega (arith, sets-few facts (h .few)))));
+        table = table-agree v (h .table) (λ i l. s .at i (inl (omega (arith, sets-few facts (h .few)))));
         store = h .store;
         long = omega (arith, h .long, s .long);
       }
@@ -108,7 +109,7 @@ entry-answers w facts d c shelf i h l e =
       order = entry .order;
       high = omega (arith, entry .below, h .room);
       labels = subst (λ (x : ℕ). LabelsAre w facts d x (part w (firstOf w i) (endOf w i))) e (entry .labels);
-      same = same-all headsAt listsEnd w;
+      same = outside-same headsAt listsEnd w;
     }
 
 -- ---- the asked set
@@ -131,9 +132,9 @@ module _ (w : List ℕ) (i c first end : ℕ) where
   put-entry-same =
       let one = set w (headsAt + 3 * i) c in
       let two = set one (headsAt + 3 * i + 1) first in
-      same-trans (same-set (headsAt + 3 * i) (headsAt + 3 * i + 3) w (headsAt + 3 * i) c (omega arith) (omega arith))
-      (same-trans (same-set (headsAt + 3 * i) (headsAt + 3 * i + 3) one (headsAt + 3 * i + 1) first (omega arith) (omega arith))
-      (same-set (headsAt + 3 * i) (headsAt + 3 * i + 3) two (headsAt + 3 * i + 2) end (omega arith) (omega arith)))
+      outside-again (outside-set (headsAt + 3 * i) (headsAt + 3 * i + 3) w (headsAt + 3 * i) c (omega arith) (omega arith))
+      (outside-again (outside-set (headsAt + 3 * i) (headsAt + 3 * i + 3) one (headsAt + 3 * i + 1) first (omega arith) (omega arith))
+      (outside-set (headsAt + 3 * i) (headsAt + 3 * i + 3) two (headsAt + 3 * i + 2) end (omega arith) (omega arith)))
 
   module _ (long : headsAt + 3 * i + 3 ≤ length w) where
     put-asked : askedOf (putEntry w i c first end) i ≡ c
@@ -173,7 +174,7 @@ module _ (w v : List ℕ) (facts d c sets used n : ℕ) (base : ShelfRoom facts 
 
   -- a place outside the new entry and outside the new labels
   put-keeps : (k : ℕ) → (k < listsAt + used) → (k < headsAt + 3 * sets) ⊎ (headsAt + 3 * sets + 3 ≤ k) → getD put k 0 ≡ getD w k 0
-  put-keeps k l o = put-same .same k o ∙ same .same k (inl l)
+  put-keeps k l o = put-same .at k o ∙ same .at k (inl l)
 
   put-table : (k : ℕ) → k < 2 ^ facts → getD put k 0 ≡ getD w k 0
   put-table k l =
@@ -187,7 +188,7 @@ module _ (w v : List ℕ) (facts d c sets used n : ℕ) (base : ShelfRoom facts 
   put-labels =
       let e : listsAt + used + n - (listsAt + used) ≡ n = omega arith in
       let p : part put (listsAt + used) (listsAt + used + n) ≡ take n (drop (listsAt + used) v) =
-      part-agree v put (listsAt + used) (listsAt + used + n) (put-same .long) (λ k l u. put-same .same k (inr (omega arith)))
+      part-agree v put (listsAt + used) (listsAt + used + n) (put-same .long) (λ k l u. put-same .at k (inr (omega arith)))
       ∙ ap (λ (m : ℕ). take m (drop (listsAt + used) v)) e in
       subst (λ (l : List ℕ). LabelsAre put facts d c l) (sym p) (labels-agree put found put-table)
 
@@ -236,6 +237,6 @@ module _ (w v : List ℕ) (facts d c sets used n : ℕ) (base : ShelfRoom facts 
         high = omega (arith, left);
         labels = put-labels;
         same =
-            same-trans (same-wider headsAt listsEnd (omega arith) (omega (arith, left)) same)
-            (same-wider headsAt listsEnd (omega arith) (omega arith) put-same);
+            outside-again (outside-wider same headsAt listsEnd (omega arith) (omega (arith, left)))
+            (outside-wider put-same headsAt listsEnd (omega arith) (omega arith));
       }

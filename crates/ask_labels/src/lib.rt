@@ -9,7 +9,8 @@ ghost use mathlib.Core.Bool.{cond};
 ghost use Prim.Native.Nat.{_+_, _-_, _/_, _≤_, _<_, _^_};
 ghost use lib.ListN.{length, getD, take, drop};
 ghost use Rattle.ask_labels.specs.FactsOutside.{outside};
-ghost use Rattle.ask_labels.specs.AskLabels.{LabelsAre, LabelRoom, SameOutside, FoundBelow, InsideAt, passesBy, isNext};
+ghost use Rattle.list_laws.specs.Frames.{SameOutside};
+ghost use Rattle.ask_labels.specs.AskLabels.{LabelsAre, LabelRoom, FoundBelow, InsideAt, passesBy, isNext};
 ghost use Rattle.ask_labels.specs.LabelShelf.{maxSets, askedOf, putEntry, Shelved, HasRoom, ShelfRoom, LabelsGiven};
 ghost use Rattle.work_layout.specs.WorkLayout.{listsAt, listsEnd};
 

@@ -94,3 +94,13 @@ module _ {A B : Type 0} (f : A → B) where
   distinct-map [] inj d = no-elements
   distinct-map (x ∷ xs) inj (one-more n d) =
       one-more (λ m. let y = mem-map f xs m in n (subst (λ (a : A). List·Memᴰ a xs) (sym (inj x (y .0) (y .2))) (y .1))) (distinct-map xs inj d)
+
+-- a map that tells its elements apart keeps them distinct
+pub distinct-map-on : {A B : Type 0} (f : A → B) (xs : List A) → Distinct xs
+    → ((a b : A) → List·Memᴰ a xs → List·Memᴰ b xs → f a ≡ f b → a ≡ b) → Distinct (map f xs)
+distinct-map-on f [] d inj = no-elements
+distinct-map-on {A} f (x ∷ xs) (one-more n d) inj =
+    one-more
+    (λ m. let y = mem-map f xs m in
+    n (subst (λ (a : A). List·Memᴰ a xs) (sym (inj x (y .0) (List·Memᴰ·head refl) (List·Memᴰ·tail (y .1)) (y .2))) (y .1)))
+    (distinct-map-on f xs d (λ a b h k e. inj a b (List·Memᴰ·tail h) (List·Memᴰ·tail k) e))

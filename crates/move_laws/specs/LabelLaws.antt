@@ -14,7 +14,7 @@ use borrow.Author.Tests.{eqb-true, eqb-false, eq-eqb, leb-true, leb-false}
 use Rattle.list_laws.specs.TestLaws.{true-false, and-left, and-right, and-intro, not-passes, not-back}
 use Rattle.lists.specs.Lists.{select, any, Distinct, no-elements, one-more}
 use Rattle.list_laws.specs.Members.{mem-select, select-mem, any-yes, any-no, mem-map}
-use Rattle.list_laws.specs.Counting.{distinct-length}
+use Rattle.list_laws.specs.Counting.{distinct-length, distinct-map-on}
 use Rattle.stores.specs.FactSets.{Within}
 use Rattle.store_laws.specs.FactSetLaws.{and-within, within-refl, within-trans, within-le}
 use Rattle.stores.specs.Stores.{Constraint, conclusions, join, strictlyBelow, leastStore}
@@ -67,16 +67,6 @@ distinct-one a [] d m f = absurd (List·Memᴰ·not-nil m)
 distinct-one {A} a (x ∷ []) d m f = ap (λ (y : A). y ∷ []) (f x (List·Memᴰ·head refl))
 distinct-one {A} a (x ∷ y ∷ ys) (one-more n d) m f =
     absurd (n (List·Memᴰ·head (f x (List·Memᴰ·head refl) ∙ sym (f y (List·Memᴰ·tail (List·Memᴰ·head refl))))))
-
--- a map that tells its elements apart keeps them distinct
-pub distinct-map-on : {A B : Type 0} (f : A → B) (xs : List A) → Distinct xs
-    → ((a b : A) → List·Memᴰ a xs → List·Memᴰ b xs → f a ≡ f b → a ≡ b) → Distinct (map f xs)
-distinct-map-on f [] d inj = no-elements
-distinct-map-on {A} f (x ∷ xs) (one-more n d) inj =
-    one-more
-    (λ m. let y = mem-map f xs m in
-    n (subst (λ (a : A). List·Memᴰ a xs) (sym (inj x (y .0) (List·Memᴰ·head refl) (List·Memᴰ·tail (y .1)) (y .2))) (y .1)))
-    (distinct-map-on f xs d (λ a b h k e. inj a b (List·Memᴰ·tail h) (List·Memᴰ·tail k) e))
 
 map-length : {A B : Type 0} (f : A → B) (xs : List A) → length (map f xs) ≡ length xs
 map-length f [] = refl

@@ -1,4 +1,4 @@
--- What the theorems ask of labelled moves, and no more. Moves of the sheet have it (crate comparison, `SheetMoves`); any
+-- What the theorems ask of labelled moves, and no more. Moves of the sheet have it (comparison_laws/SheetMoves); any
 -- others that have it are covered too.
 use mathlib.Core.Path.{_≡_}
 use Prim.Native.Nat.{ℕ, _<_}

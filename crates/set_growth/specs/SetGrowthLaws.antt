@@ -11,7 +11,7 @@ use Rattle.list_laws.specs.Tabulate.{tabulate-at, tabulate-length}
 use Rattle.list_laws.specs.TabulateLaws.{mem-tabulate, tabulate-mem}
 use Rattle.list_laws.specs.Members.{mem-map, map-mem}
 use Rattle.lists.specs.Lists.{Distinct, no-elements, one-more}
-use Rattle.list_laws.specs.Counting.{distinct-append, distinct-map, ascends-distinct}
+use Rattle.list_laws.specs.Counting.{distinct-append, distinct-map, distinct-map-on, ascends-distinct}
 use Rattle.stores.specs.Stores.{strictlyBelow}
 use Rattle.store_laws.specs.StoreLaws.{below-within}
 use Rattle.sheets.specs.Sheet.{Configuration}
@@ -112,17 +112,6 @@ module _ {g : Growth} {h : InHand g} {v : List ℕ} {first : ℕ} {s : Running} 
   }
 
 -- ---- no repeats
--- a map that tells the elements of a list apart keeps them distinct
-pub distinct-map-on : {A B : Type 0} (f : A → B) (xs : List A) → ((a b : A) → List·Memᴰ a xs → List·Memᴰ b xs → f a ≡ f b → a ≡ b)
-    → Distinct xs → Distinct (map f xs)
-distinct-map-on f [] e d = no-elements
-distinct-map-on {A} f (x ∷ xs) e (one-more n d) =
-    one-more
-    (λ m.
-    let y = mem-map f xs m in
-    n (subst (λ (a : A). List·Memᴰ a xs) (sym (e x (y .0) (List·Memᴰ·head refl) (List·Memᴰ·tail (y .1)) (y .2))) (y .1)))
-    (distinct-map-on f xs (λ a b i j q. e a b (List·Memᴰ·tail i) (List·Memᴰ·tail j) q) d)
-
 module _ {v : List ℕ} {first : ℕ} {s : Running} {l : Caps} (c : Collecting v first s l) where
   -- two numbers that stand for one move are equal
   move-number : (a b : ℕ) → List·Memᴰ a (moveNumbers v first (s .moves)) → List·Memᴰ b (moveNumbers v first (s .moves))
@@ -136,8 +125,8 @@ module _ {v : List ℕ} {first : ℕ} {s : Running} {l : Caps} (c : Collecting v
   -- no move was collected twice
   pub moves-distinct : Distinct (movesOf v first s)
   moves-distinct =
-      distinct-map-on (moveIn v) (moveNumbers v first (s .moves)) move-number
-      (ascends-distinct numberOrder (moveNumbers v first (s .moves)) (c .ascending))
+      distinct-map-on (moveIn v) (moveNumbers v first (s .moves))
+      (ascends-distinct numberOrder (moveNumbers v first (s .moves)) (c .ascending)) move-number
 
   pub moves-length : length (movesOf v first s) ≡ s .moves - first
   moves-length =

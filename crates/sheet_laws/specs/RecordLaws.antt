@@ -33,14 +33,3 @@ module _ {A : Type 0} (item : List A → ℕ → Reading A) where
   records-next n i read at next r h e =
       let s : n - i ≡ suc (n - (i + 1)) = omega arith in
       rw (s, recordsFrom, e)
-
-  -- the records that were read and the next one
-  abbrev pub oneMore : List A → ℕ → Reading (List A)
-  oneMore read at = andThen (item read at) (λ r next. got (read ++ (r ∷ [])) next)
-
-  pub records-step : (n i : ℕ) (read : List A) (at : ℕ) → i < n
-      → recordsFrom item (n - i) read at ≡ andThen (oneMore read at) (λ l next. recordsFrom item (n - (i + 1)) l next)
-  unfolding recordsFrom
-  records-step n i read at h =
-      let s : n - i ≡ suc (n - (i + 1)) = omega arith in
-      ap (λ (m : ℕ). recordsFrom item m read at) s ∙ then-regroup (item read at) _ _ _ (λ r next. refl)

@@ -35,7 +35,6 @@ use Rattle.nodes_to_visit.specs.declared.NodeBeside as held
 use Rattle.nodes_to_visit.specs.declared.Beside.{Beside}
 use Rattle.nodes_to_visit.specs.NodesToVisit.{nodeBeside, PutBeside}
 use Rattle.ask_labels.specs.declared.Labelled.{Labelled}
-use Rattle.ask_labels.specs.AskLabels as labels-of
 use Rattle.ask_labels.specs.AskLabels.{LabelsAre, part}
 use Rattle.ask_labels.specs.LabelShelf.{ShelfRoom, LabelsGiven}
 use Rattle.ask_labels.specs.LabelShelfLaws.{sets-few}
@@ -300,16 +299,12 @@ beside-count {threads} {e} {limit} h l f =
     omega (arith, leb-true (e .count + length threads) limit (sym (h .fits) ∙ f), h .count f)
 
 -- ---- the shelf
--- the shelf's places are those outside of which nothing was changed
-shelf-frame : {v u : List ℕ} → labels-of.SameOutside headsAt listsEnd v u → SameOutside headsAt listsEnd v u
-shelf-frame o = record { long = o .long; at = o .same }
-
 -- the labels that were asked for stand where they should
 pub answered-stand : {rank : ℕ → ℕ} {b : Basis} {v u : List ℕ} {s : Walk} {c : ℕ} {a : Labelled} → Walking rank v b s
     → LabelsGiven v (b .facts) (b .store) c a u → LabelsStand u (b .facts) (b .store) (a .first) (a .end)
 unfolding numbersIn
 answered-stand {b = b} {v} {u} {s} {c} {a} k h =
-    let room = shelf-walking (a .shelf) k (shelf-frame (h .same)) (h .shelved) .shelf-room in
+    let room = shelf-walking (a .shelf) k (h .same) (h .shelved) .shelf-room in
     record {
       few = room .few;
       store = room .store;
@@ -323,7 +318,7 @@ answered-stand {b = b} {v} {u} {s} {c} {a} k h =
 
 pub answered-collecting : {rank : ℕ → ℕ} {b : Basis} {v u : List ℕ} {s : Walk} {c : ℕ} {a : Labelled} → Walking rank v b s
     → LabelsGiven v (b .facts) (b .store) c a u → Collecting u (b .first) (s .running) (b .caps)
-answered-collecting {a = a} k h = shelf-walking (a .shelf) k (shelf-frame (h .same)) (h .shelved) .collecting
+answered-collecting {a = a} k h = shelf-walking (a .shelf) k (h .same) (h .shelved) .collecting
 
 module _ {rank : ℕ → ℕ} {b : Basis} {v : List ℕ} {s : Walk} (k : Walking rank v b s) {e : NodeBeside} (fit : VisitFits b e) {c q : ℕ}
     (nodes : List Node) (of : NodesOf rank b nodes) (x : nodeOf nodes (e .node) ≡ ask c q) where
@@ -339,7 +334,7 @@ module _ {rank : ℕ → ℕ} {b : Basis} {v : List ℕ} {s : Walk} (k : Walking
 
   module _ {u : List ℕ} {a : Labelled} (h : LabelsGiven v (b .facts) (b .store) c a u) where
     after : Walking rank u b (reshelved s (a .shelf))
-    after = shelf-walking (a .shelf) k (shelf-frame (h .same)) (h .shelved)
+    after = shelf-walking (a .shelf) k (h .same) (h .shelved)
 
     -- the moves of all labels are noted
     pub ask-turn : q < b .nodes → length (opened nodes q) + length (e .threads) ≤ b .caps .threads → {w : List ℕ} {t : Running}
@@ -349,7 +344,7 @@ module _ {rank : ℕ → ℕ} {b : Basis} {v : List ℕ} {s : Walk} (k : Walking
     ask-turn lq few n =
         let ts : List ℕ = sortUp (opened nodes q ++ e .threads) in
         let room = after .shelf-room in
-        shelf-turn (a .shelf) k (shelf-frame (h .same))
+        shelf-turn (a .shelf) k (h .same)
         (noted-turn after n nodes e
         (λ m i.
         let y = mem-map (labelMove u (b .store) ts) (part u (a .first) (a .end)) i in
@@ -369,5 +364,5 @@ module _ {rank : ℕ → ℕ} {b : Basis} {v : List ℕ} {s : Walk} (k : Walking
         (labelMoves u (b .store) (sortUp (opened nodes q ++ e .threads)) (a .first) (a .end)) w
         → TurnOver rank nodes b v s (e ∷ []) w
     ask-over n =
-        shelf-turn-over (a .shelf) k (shelf-frame (h .same))
+        shelf-turn-over (a .shelf) k (h .same)
         (noted-over n nodes e (λ g o. ask-labelled after fit of g o c q (a .first) (a .end) x (h .labels)))

@@ -3,7 +3,8 @@ use borrow.Author.Needs.{needs}
 use native.Mathlib.Omega.{arith}
 use Prim.Native.Nat.{_+_, _/_, _^_}
 use lib.ListN.{getD}
-use Rattle.ask_labels.specs.LabelScanLaws.{least-alone, same-set, numbers-distinct, sorted-labels, sorted-same}
+use Rattle.list_laws.specs.Frames.{outside-set}
+use Rattle.ask_labels.specs.LabelScanLaws.{least-alone, numbers-distinct, sorted-labels, sorted-same}
 use Rattle.ask_labels.proofs.labels_from.Statement.{statement}
 use Rattle.ask_labels.proofs.labels_from.Tie as tie
 
@@ -25,7 +26,7 @@ returns c =
     let x = start .args in (
       least-alone (x .facts) (x .d) (x .c) (x .at) (x .work .now) (start .pre) (c .before .if1 .taken),
       omega arith,
-      same-set (x .at) (x .at + 2 ^ x .facts / 2 + 2) (x .work .now) (x .at) (getD (x .work .now) 0 0) (omega arith) (omega arith),
+      outside-set (x .at) (x .at + 2 ^ x .facts / 2 + 2) (x .work .now) (x .at) (getD (x .work .now) 0 0) (omega arith) (omega arith),
     )
 
 scan-labels-requires : tie.Need-scan-labels-requires

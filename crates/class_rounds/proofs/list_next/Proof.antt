@@ -7,6 +7,14 @@ use borrow.Author.Needs.{needs}
 use Rattle.class_rounds.proofs.list_next.Statement.{statement}
 use Rattle.class_rounds.proofs.list_next.Tie as tie
 
+-- ---- the stages of the function, each from a later one
+abbrev start-of-wake : tie.After-wake → tie.Start
+start-of-wake s = s .before .before .before .before .before .before
+
+abbrev wake-of-list-places : tie.After-list-places → tie.After-wake
+wake-of-list-places s = s .before .before .before
+
+-- ---- what is left to show
 wake-requires : tie.Need-wake-requires
 wake-requires c κs =
     let b = c .before .before .before .before .before in
@@ -20,14 +28,19 @@ wake-requires c κs =
 
 list-places-requires : tie.Need-list-places-requires
 list-places-requires c κs =
-    let p = c .before .before .before .before .before .before .before .before .pre in
+    let at-wake = c .before .before in
+    let at-start = start-of-wake at-wake in
+    let p = at-start .pre in
     (p .2, p .0, p .3)
 
 chosen-listed-requires : tie.Need-chosen-listed-requires
 chosen-listed-requires c κs =
-    let b = c .before .before .before .before .before .before .before .before .before .before .before in
+    let at-list-places = c .before .before in
+    let at-wake = wake-of-list-places at-list-places in
+    let at-start = start-of-wake at-wake in
+    let b = at-start in
     let p = b .pre in
-    let L = c .before .before .list-places .ensures in (
+    let L = at-list-places .list-places .ensures in (
       omega (arith, L .few, p .0),
       p .1,
       (λ j l. (
@@ -38,7 +51,10 @@ chosen-listed-requires c κs =
 
 choose-rest-requires : tie.Need-choose-rest-requires
 choose-rest-requires c κs =
-    let p = c .before .before .before .before .before .before .before .before .before .before .before .before .before .before .before .pre in
+    let at-list-places = c .before .before .before .before .before .before in
+    let at-wake = wake-of-list-places at-list-places in
+    let at-start = start-of-wake at-wake in
+    let p = at-start .pre in
     (p .0, p .1, (λ i l. omega (arith, p .6 .1 .known i l, classed-count (p .6 .1), p .0)))
 
 same-length : tie.Need-same-length
@@ -46,12 +62,15 @@ same-length c = search needs
 
 returns : tie.Need-returns
 returns c =
-    let b = c .before .before .before .before .before .before .before .before .before .before .before .before .before .before .before .before .before .before in
+    let at-list-places = c .before .before .before .before .before .before .before .before .before in
+    let at-wake = wake-of-list-places at-list-places in
+    let at-start = start-of-wake at-wake in
+    let b = at-start in
     let g = b .args in
     let p = b .pre in
     let x = c .before .before .choose-rest in
-    let y = c .before .before .before .before .before .before .before .before .before .list-places in
-    let z = c .before .before .before .before .before .before .before .before .before .before .before .before .wake in
+    let y = at-list-places .list-places in
+    let z = at-wake .wake in
     next-chosen (g .work .now) (g .sets .now) (g .width) (g .n) (g .old) (g .list .now) (g .k) (z .last .1 .1 .1 .1 .1 .1 .0) (z .ensures)
     (y .last .1 .1 .1 .0) (y .result) (y .ensures) (p .3) (p .0) (x .last .0) (x .ensures)
 
@@ -60,11 +79,14 @@ same-length-2 c = search needs
 
 returns-2 : tie.Need-returns-2
 returns-2 c =
-    let b = c .before .before .before .before .before .before .before .before .before .before .before .before .before in
+    let at-list-places = c .before .before .before .before in
+    let at-wake = wake-of-list-places at-list-places in
+    let at-start = start-of-wake at-wake in
+    let b = at-start in
     let g = b .args in
     let p = b .pre in
-    let y = c .before .before .before .before .list-places in
-    let z = c .before .before .before .before .before .before .before .wake in
+    let y = at-list-places .list-places in
+    let z = at-wake .wake in
     next-kept (g .work .now) (g .sets .now) (g .width) (g .n) (g .old) (g .list .now) (g .k) (z .last .1 .1 .1 .1 .1 .1 .0) (z .ensures)
     (y .last .1 .1 .1 .0) (y .result) (y .ensures) (p .3) (c .before .chosen-listed .ensures (c .if1 .left))
 

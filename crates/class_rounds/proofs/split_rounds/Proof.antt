@@ -23,6 +23,32 @@ Inv-loop w₀ sets₀ width n m count₀ list₀ k₀ round₀ w sets count list
 abbrev μ-loop : tie.MeasureT-loop
 μ-loop w₀ sets₀ width n m count₀ list₀ k₀ round₀ w sets count list k round = n - count
 
+-- ---- the stages of the function, each from a later one
+abbrev forget-dominators-of-found-classes : tie.After-found-classes Inv-loop μ-loop → tie.After-forget-dominators Inv-loop μ-loop
+forget-dominators-of-found-classes s = s .before .before .before .before
+
+abbrev start-of-forget-dominators : tie.After-forget-dominators Inv-loop μ-loop → tie.Start Inv-loop μ-loop
+start-of-forget-dominators s = s .before .before .before .before
+
+abbrev found-classes-of-choose-rest : tie.After-choose-rest Inv-loop μ-loop → tie.After-found-classes Inv-loop μ-loop
+found-classes-of-choose-rest s = s .before .before .before .before .before
+
+abbrev list-all-of-at-loop : tie.At-loop Inv-loop μ-loop → tie.After-list-all Inv-loop μ-loop
+list-all-of-at-loop s = s .before .before
+
+abbrev choose-rest-of-list-all : tie.After-list-all Inv-loop μ-loop → tie.After-choose-rest Inv-loop μ-loop
+choose-rest-of-list-all s = s .before .before .before .before
+
+abbrev at-loop-of-line-listed : tie.After-line-listed Inv-loop μ-loop → tie.At-loop Inv-loop μ-loop
+at-loop-of-line-listed s = s .before .before .before .before
+
+abbrev line-listed-of-split-listed : tie.After-split-listed Inv-loop μ-loop → tie.After-line-listed Inv-loop μ-loop
+line-listed-of-split-listed s = s .before .before .before .before .before .before .before
+
+abbrev split-listed-of-else1 : tie.Else1 Inv-loop μ-loop → tie.After-split-listed Inv-loop μ-loop
+split-listed-of-else1 s = s .before .before .before
+
+-- ---- what is left to show
 forget-dominators-requires : tie.Need-forget-dominators-requires Inv-loop μ-loop
 forget-dominators-requires c κs = let H = c .before .before .before .pre .0 .ready .held in (H .few .1, H .long)
 
@@ -33,10 +59,13 @@ found-classes-requires c κs =
 
 choose-rest-requires : tie.Need-choose-rest-requires Inv-loop μ-loop
 choose-rest-requires c κs =
-    let H = c .before .before .before .before .before .before .before .before .before .before .before .before .pre .0 .ready .held in
-    let d = c .before .before .before .before .found-classes in (
+    let at-found-classes = c .before .before .before .before in
+    let at-forget-dominators = forget-dominators-of-found-classes at-found-classes in
+    let at-start = start-of-forget-dominators at-forget-dominators in
+    let H = at-start .pre .0 .ready .held in
+    let d = at-found-classes .found-classes in (
       H .few .0,
-      omega (arith, H .long, c .before .before .before .before .before .before .before .before .forget-dominators .ensures .outside .long, d .ensures .only .long),
+      omega (arith, H .long, at-forget-dominators .forget-dominators .ensures .outside .long, d .ensures .only .long),
       (λ i l. omega (arith, d .ensures .classed .known i l, classed-count (d .ensures .classed), H .few .0)),
     )
 
@@ -45,7 +74,11 @@ slice-aggregate-list-all c = search needs
 
 list-all-requires : tie.Need-list-all-requires Inv-loop μ-loop
 list-all-requires c κs =
-    let H = c .before .before .before .before .before .before .before .before .before .before .before .before .before .before .before .before .pre .0 .ready .held in
+    let at-choose-rest = c .before .before .before in
+    let at-found-classes = found-classes-of-choose-rest at-choose-rest in
+    let at-forget-dominators = forget-dominators-of-found-classes at-found-classes in
+    let at-start = start-of-forget-dominators at-forget-dominators in
+    let H = at-start .pre .0 .ready .held in
     (H .few .0, omega (arith, H .few .0))
 
 loop-holds : tie.Need-loop-holds Inv-loop μ-loop
@@ -53,14 +86,20 @@ loop-holds c = (refl, refl, (λ v Y G. G))
 
 line-listed-requires : tie.Need-line-listed-requires Inv-loop μ-loop
 line-listed-requires c κs =
-    let b = c .before .before .before .before .before .before .before .before .before .before .before .before .before .before .before .before .before .before .before .before .before .before in
+    let at-loop = c .before .before .before in
+    let at-list-all = list-all-of-at-loop at-loop in
+    let at-choose-rest = choose-rest-of-list-all at-list-all in
+    let at-found-classes = found-classes-of-choose-rest at-choose-rest in
+    let at-forget-dominators = forget-dominators-of-found-classes at-found-classes in
+    let at-start = start-of-forget-dominators at-forget-dominators in
+    let b = at-start in
     let g = b .args in
     let v : List ℕ = g .work .now in
-    let f = c .before .before .before .before .before .before .before .before .before .before .before .before .before .before .before .before .before .before .forget-dominators in
-    let d = c .before .before .before .before .before .before .before .before .before .before .before .before .before .before .found-classes in
-    let h = c .before .before .before .before .before .before .before .before .before .choose-rest in
-    let a = c .before .before .before .before .before .list-all in
-    let l = c .before .before .before .loop in
+    let f = at-forget-dominators .forget-dominators in
+    let d = at-found-classes .found-classes in
+    let h = at-choose-rest .choose-rest in
+    let a = at-list-all .list-all in
+    let l = at-loop .loop in
     let G : Refining v (g .n) (g .m) (l .work) (l .sets) (g .width) (l .list) (l .k) (l .round) (l .count) =
     l .inv .2 v (b .pre .0) (refining-first v (g .n) (g .m) (f .last .0) (f .ensures) (d .last .0) (d .result) (d .ensures) (h .last .0) nobody (h .ensures)
     (g .sets .now) (g .width) (a .last .0) (a .ensures) (b .pre .0)) in
@@ -75,14 +114,21 @@ line-listed-requires c κs =
 
 add-split-listed : tie.Need-add-split-listed Inv-loop μ-loop
 add-split-listed c =
-    let b = c .before .before .before .before .before .before .before .before .before .before .before .before .before .before .before .before .before .before .before .before .before .before .before .before .before .before .before .before .before in
+    let at-line-listed = c .before .before .before .before .before .before in
+    let at-loop = at-loop-of-line-listed at-line-listed in
+    let at-list-all = list-all-of-at-loop at-loop in
+    let at-choose-rest = choose-rest-of-list-all at-list-all in
+    let at-found-classes = found-classes-of-choose-rest at-choose-rest in
+    let at-forget-dominators = forget-dominators-of-found-classes at-found-classes in
+    let at-start = start-of-forget-dominators at-forget-dominators in
+    let b = at-start in
     let g = b .args in
     let v : List ℕ = g .work .now in
-    let f = c .before .before .before .before .before .before .before .before .before .before .before .before .before .before .before .before .before .before .before .before .before .before .before .before .before .forget-dominators in
-    let d = c .before .before .before .before .before .before .before .before .before .before .before .before .before .before .before .before .before .before .before .before .before .found-classes in
-    let h = c .before .before .before .before .before .before .before .before .before .before .before .before .before .before .before .before .choose-rest in
-    let a = c .before .before .before .before .before .before .before .before .before .before .before .before .list-all in
-    let l = c .before .before .before .before .before .before .before .before .before .before .loop in
+    let f = at-forget-dominators .forget-dominators in
+    let d = at-found-classes .found-classes in
+    let h = at-choose-rest .choose-rest in
+    let a = at-list-all .list-all in
+    let l = at-loop .loop in
     let G : Refining v (g .n) (g .m) (l .work) (l .sets) (g .width) (l .list) (l .k) (l .round) (l .count) =
     l .inv .2 v (b .pre .0) (refining-first v (g .n) (g .m) (f .last .0) (f .ensures) (d .last .0) (d .result) (d .ensures) (h .last .0) nobody (h .ensures)
     (g .sets .now) (g .width) (a .last .0) (a .ensures) (b .pre .0)) in
@@ -90,18 +136,25 @@ add-split-listed c =
 
 split-listed-requires : tie.Need-split-listed-requires Inv-loop μ-loop
 split-listed-requires c κs =
-    let b = c .before .before .before .before .before .before .before .before .before .before .before .before .before .before .before .before .before .before .before .before .before .before .before .before .before .before .before .before .before in
+    let at-line-listed = c .before .before .before .before .before .before in
+    let at-loop = at-loop-of-line-listed at-line-listed in
+    let at-list-all = list-all-of-at-loop at-loop in
+    let at-choose-rest = choose-rest-of-list-all at-list-all in
+    let at-found-classes = found-classes-of-choose-rest at-choose-rest in
+    let at-forget-dominators = forget-dominators-of-found-classes at-found-classes in
+    let at-start = start-of-forget-dominators at-forget-dominators in
+    let b = at-start in
     let g = b .args in
     let v : List ℕ = g .work .now in
-    let f = c .before .before .before .before .before .before .before .before .before .before .before .before .before .before .before .before .before .before .before .before .before .before .before .before .before .forget-dominators in
-    let d = c .before .before .before .before .before .before .before .before .before .before .before .before .before .before .before .before .before .before .before .before .before .found-classes in
-    let h = c .before .before .before .before .before .before .before .before .before .before .before .before .before .before .before .before .choose-rest in
-    let a = c .before .before .before .before .before .before .before .before .before .before .before .before .list-all in
-    let l = c .before .before .before .before .before .before .before .before .before .before .loop in
+    let f = at-forget-dominators .forget-dominators in
+    let d = at-found-classes .found-classes in
+    let h = at-choose-rest .choose-rest in
+    let a = at-list-all .list-all in
+    let l = at-loop .loop in
     let G : Refining v (g .n) (g .m) (l .work) (l .sets) (g .width) (l .list) (l .k) (l .round) (l .count) =
     l .inv .2 v (b .pre .0) (refining-first v (g .n) (g .m) (f .last .0) (f .ensures) (d .last .0) (d .result) (d .ensures) (h .last .0) nobody (h .ensures)
     (g .sets .now) (g .width) (a .last .0) (a .ensures) (b .pre .0)) in
-    let u = c .before .before .before .before .before .before .line-listed in
+    let u = at-line-listed .line-listed in
     let H = b .pre .0 .ready .held in (
       H .few .0,
       omega (arith, H .long, G .same-set .long, u .ensures .only .long),
@@ -113,58 +166,85 @@ split-listed-requires c κs =
 
 same-length : tie.Need-same-length Inv-loop μ-loop
 same-length c =
-    let f = c .before .before .before .before .before .before .before .before .before .before .before .before .before .before .before .before .before .before .before .before .before .before .before .before .before .before .before .before .before .forget-dominators in
-    let d = c .before .before .before .before .before .before .before .before .before .before .before .before .before .before .before .before .before .before .before .before .before .before .before .before .before .found-classes in
-    let h = c .before .before .before .before .before .before .before .before .before .before .before .before .before .before .before .before .before .before .before .before .choose-rest in
-    let u = c .before .before .before .before .before .before .before .before .before .before .line-listed in
-    let s = c .before .before .before .split-listed in
+    let at-split-listed = c .before .before .before in
+    let at-line-listed = line-listed-of-split-listed at-split-listed in
+    let at-loop = at-loop-of-line-listed at-line-listed in
+    let at-list-all = list-all-of-at-loop at-loop in
+    let at-choose-rest = choose-rest-of-list-all at-list-all in
+    let at-found-classes = found-classes-of-choose-rest at-choose-rest in
+    let at-forget-dominators = forget-dominators-of-found-classes at-found-classes in
+    let f = at-forget-dominators .forget-dominators in
+    let d = at-found-classes .found-classes in
+    let h = at-choose-rest .choose-rest in
+    let u = at-line-listed .line-listed in
+    let s = at-split-listed .split-listed in
     omega (
       arith,
       f .ensures .outside .long,
       d .ensures .only .long,
       h .ensures .only .long,
-      c .before .before .before .before .before .before .before .before .before .before .before .before .before .before .loop .inv .0,
+      at-loop .loop .inv .0,
       u .ensures .only .long,
       s .ensures .only .long,
     )
 
 same-length-2 : tie.Need-same-length-2 Inv-loop μ-loop
 same-length-2 c =
-    let u = c .before .before .before .before .before .before .before .before .before .before .line-listed in
-    omega (arith, c .before .before .before .before .before .before .before .before .before .before .before .before .before .before .loop .inv .1, u .ensures .grown .long)
+    let at-split-listed = c .before .before .before in
+    let at-line-listed = line-listed-of-split-listed at-split-listed in
+    let at-loop = at-loop-of-line-listed at-line-listed in
+    let u = at-line-listed .line-listed in
+    omega (arith, at-loop .loop .inv .1, u .ensures .grown .long)
 
 returns : tie.Need-returns Inv-loop μ-loop
 returns c =
-    let b = c .before .before .before .before .before .before .before .before .before .before .before .before .before .before .before .before .before .before .before .before .before .before .before .before .before .before .before .before .before .before .before .before .before in
+    let at-split-listed = c .before .before .before in
+    let at-line-listed = line-listed-of-split-listed at-split-listed in
+    let at-loop = at-loop-of-line-listed at-line-listed in
+    let at-list-all = list-all-of-at-loop at-loop in
+    let at-choose-rest = choose-rest-of-list-all at-list-all in
+    let at-found-classes = found-classes-of-choose-rest at-choose-rest in
+    let at-forget-dominators = forget-dominators-of-found-classes at-found-classes in
+    let at-start = start-of-forget-dominators at-forget-dominators in
+    let b = at-start in
     let g = b .args in
     let v : List ℕ = g .work .now in
-    let f = c .before .before .before .before .before .before .before .before .before .before .before .before .before .before .before .before .before .before .before .before .before .before .before .before .before .before .before .before .before .forget-dominators in
-    let d = c .before .before .before .before .before .before .before .before .before .before .before .before .before .before .before .before .before .before .before .before .before .before .before .before .before .found-classes in
-    let h = c .before .before .before .before .before .before .before .before .before .before .before .before .before .before .before .before .before .before .before .before .choose-rest in
-    let a = c .before .before .before .before .before .before .before .before .before .before .before .before .before .before .before .before .list-all in
-    let l = c .before .before .before .before .before .before .before .before .before .before .before .before .before .before .loop in
+    let f = at-forget-dominators .forget-dominators in
+    let d = at-found-classes .found-classes in
+    let h = at-choose-rest .choose-rest in
+    let a = at-list-all .list-all in
+    let l = at-loop .loop in
     let G : Refining v (g .n) (g .m) (l .work) (l .sets) (g .width) (l .list) (l .k) (l .round) (l .count) =
     l .inv .2 v (b .pre .0) (refining-first v (g .n) (g .m) (f .last .0) (f .ensures) (d .last .0) (d .result) (d .ensures) (h .last .0) nobody (h .ensures)
     (g .sets .now) (g .width) (a .last .0) (a .ensures) (b .pre .0)) in
-    let u = c .before .before .before .before .before .before .before .before .before .before .line-listed in
-    let s = c .before .before .before .split-listed in
+    let u = at-line-listed .line-listed in
+    let s = at-split-listed .split-listed in
     refining-last v (g .n) (g .m) (l .work) (l .sets) (g .width) (l .list) (l .k) (l .round) (l .count) G (u .last .0) (u .last .1 .0) (u .ensures) (s .last .0) (s .result) (s .ensures) (c .if1 .taken)
 
 list-next-requires : tie.Need-list-next-requires Inv-loop μ-loop
 list-next-requires c κs =
-    let b = c .before .before .before .before .before .before .before .before .before .before .before .before .before .before .before .before .before .before .before .before .before .before .before .before .before .before .before .before .before .before .before .before .before .before .before .before in
+    let at-else1 = c .before .before .before in
+    let at-split-listed = split-listed-of-else1 at-else1 in
+    let at-line-listed = line-listed-of-split-listed at-split-listed in
+    let at-loop = at-loop-of-line-listed at-line-listed in
+    let at-list-all = list-all-of-at-loop at-loop in
+    let at-choose-rest = choose-rest-of-list-all at-list-all in
+    let at-found-classes = found-classes-of-choose-rest at-choose-rest in
+    let at-forget-dominators = forget-dominators-of-found-classes at-found-classes in
+    let at-start = start-of-forget-dominators at-forget-dominators in
+    let b = at-start in
     let g = b .args in
     let v : List ℕ = g .work .now in
-    let f = c .before .before .before .before .before .before .before .before .before .before .before .before .before .before .before .before .before .before .before .before .before .before .before .before .before .before .before .before .before .before .before .before .forget-dominators in
-    let d = c .before .before .before .before .before .before .before .before .before .before .before .before .before .before .before .before .before .before .before .before .before .before .before .before .before .before .before .before .found-classes in
-    let h = c .before .before .before .before .before .before .before .before .before .before .before .before .before .before .before .before .before .before .before .before .before .before .before .choose-rest in
-    let a = c .before .before .before .before .before .before .before .before .before .before .before .before .before .before .before .before .before .before .before .list-all in
-    let l = c .before .before .before .before .before .before .before .before .before .before .before .before .before .before .before .before .before .loop in
+    let f = at-forget-dominators .forget-dominators in
+    let d = at-found-classes .found-classes in
+    let h = at-choose-rest .choose-rest in
+    let a = at-list-all .list-all in
+    let l = at-loop .loop in
     let G : Refining v (g .n) (g .m) (l .work) (l .sets) (g .width) (l .list) (l .k) (l .round) (l .count) =
     l .inv .2 v (b .pre .0) (refining-first v (g .n) (g .m) (f .last .0) (f .ensures) (d .last .0) (d .result) (d .ensures) (h .last .0) nobody (h .ensures)
     (g .sets .now) (g .width) (a .last .0) (a .ensures) (b .pre .0)) in
-    let u = c .before .before .before .before .before .before .before .before .before .before .before .before .before .line-listed in
-    let s = c .before .before .before .before .before .before .split-listed in
+    let u = at-line-listed .line-listed in
+    let s = at-split-listed .split-listed in
     let H = b .pre .0 .ready .held in (
       H .few .0,
       omega (arith, H .long, G .same-set .long, u .ensures .only .long, s .ensures .only .long),
@@ -177,14 +257,23 @@ list-next-requires c κs =
 
 add-round : tie.Need-add-round Inv-loop μ-loop
 add-round c =
-    let b = c .before .before .before .before .before .before .before .before .before .before .before .before .before .before .before .before .before .before .before .before .before .before .before .before .before .before .before .before .before .before .before .before .before .before .before .before .before .before .before in
+    let at-else1 = c .before .before .before .before .before .before in
+    let at-split-listed = split-listed-of-else1 at-else1 in
+    let at-line-listed = line-listed-of-split-listed at-split-listed in
+    let at-loop = at-loop-of-line-listed at-line-listed in
+    let at-list-all = list-all-of-at-loop at-loop in
+    let at-choose-rest = choose-rest-of-list-all at-list-all in
+    let at-found-classes = found-classes-of-choose-rest at-choose-rest in
+    let at-forget-dominators = forget-dominators-of-found-classes at-found-classes in
+    let at-start = start-of-forget-dominators at-forget-dominators in
+    let b = at-start in
     let g = b .args in
     let v : List ℕ = g .work .now in
-    let f = c .before .before .before .before .before .before .before .before .before .before .before .before .before .before .before .before .before .before .before .before .before .before .before .before .before .before .before .before .before .before .before .before .before .before .before .forget-dominators in
-    let d = c .before .before .before .before .before .before .before .before .before .before .before .before .before .before .before .before .before .before .before .before .before .before .before .before .before .before .before .before .before .before .before .found-classes in
-    let h = c .before .before .before .before .before .before .before .before .before .before .before .before .before .before .before .before .before .before .before .before .before .before .before .before .before .before .choose-rest in
-    let a = c .before .before .before .before .before .before .before .before .before .before .before .before .before .before .before .before .before .before .before .before .before .before .list-all in
-    let l = c .before .before .before .before .before .before .before .before .before .before .before .before .before .before .before .before .before .before .before .before .loop in
+    let f = at-forget-dominators .forget-dominators in
+    let d = at-found-classes .found-classes in
+    let h = at-choose-rest .choose-rest in
+    let a = at-list-all .list-all in
+    let l = at-loop .loop in
     let G : Refining v (g .n) (g .m) (l .work) (l .sets) (g .width) (l .list) (l .k) (l .round) (l .count) =
     l .inv .2 v (b .pre .0) (refining-first v (g .n) (g .m) (f .last .0) (f .ensures) (d .last .0) (d .result) (d .ensures) (h .last .0) nobody (h .ensures)
     (g .sets .now) (g .width) (a .last .0) (a .ensures) (b .pre .0)) in
@@ -192,31 +281,49 @@ add-round c =
 
 loop-less : tie.Need-loop-less Inv-loop μ-loop
 loop-less c =
-    let b = c .before .before .before .before .before .before .before .before .before .before .before .before .before .before .before .before .before .before .before .before .before .before .before .before .before .before .before .before .before .before .before .before .before .before .before .before .before .before .before in
+    let at-else1 = c .before .before .before .before .before .before in
+    let at-split-listed = split-listed-of-else1 at-else1 in
+    let at-line-listed = line-listed-of-split-listed at-split-listed in
+    let at-loop = at-loop-of-line-listed at-line-listed in
+    let at-list-all = list-all-of-at-loop at-loop in
+    let at-choose-rest = choose-rest-of-list-all at-list-all in
+    let at-found-classes = found-classes-of-choose-rest at-choose-rest in
+    let at-forget-dominators = forget-dominators-of-found-classes at-found-classes in
+    let at-start = start-of-forget-dominators at-forget-dominators in
+    let b = at-start in
     let g = b .args in
     let v : List ℕ = g .work .now in
-    let f = c .before .before .before .before .before .before .before .before .before .before .before .before .before .before .before .before .before .before .before .before .before .before .before .before .before .before .before .before .before .before .before .before .before .before .before .forget-dominators in
-    let d = c .before .before .before .before .before .before .before .before .before .before .before .before .before .before .before .before .before .before .before .before .before .before .before .before .before .before .before .before .before .before .before .found-classes in
-    let h = c .before .before .before .before .before .before .before .before .before .before .before .before .before .before .before .before .before .before .before .before .before .before .before .before .before .before .choose-rest in
-    let a = c .before .before .before .before .before .before .before .before .before .before .before .before .before .before .before .before .before .before .before .before .before .before .list-all in
-    let l = c .before .before .before .before .before .before .before .before .before .before .before .before .before .before .before .before .before .before .before .before .loop in
+    let f = at-forget-dominators .forget-dominators in
+    let d = at-found-classes .found-classes in
+    let h = at-choose-rest .choose-rest in
+    let a = at-list-all .list-all in
+    let l = at-loop .loop in
     let G : Refining v (g .n) (g .m) (l .work) (l .sets) (g .width) (l .list) (l .k) (l .round) (l .count) =
     l .inv .2 v (b .pre .0) (refining-first v (g .n) (g .m) (f .last .0) (f .ensures) (d .last .0) (d .result) (d .ensures) (h .last .0) nobody (h .ensures)
     (g .sets .now) (g .width) (a .last .0) (a .ensures) (b .pre .0)) in
-    let s = c .before .before .before .before .before .before .before .before .before .split-listed in
-    omega (arith, s .ensures .more, classed-count (s .ensures .classed), c .before .before .before .before .before .before .if1 .left)
+    let s = at-split-listed .split-listed in
+    omega (arith, s .ensures .more, classed-count (s .ensures .classed), at-else1 .if1 .left)
 
 loop-again : tie.Need-loop-again Inv-loop μ-loop
 loop-again c =
-    let g = c .before .before .before .before .before .before .before .before .before .before .before .before .before .before .before .before .before .before .before .before .before .before .before .before .before .before .before .before .before .before .before .before .before .before .before .before .before .before .before .args in
-    let l = c .before .before .before .before .before .before .before .before .before .before .before .before .before .before .before .before .before .before .before .before .loop in
-    let u = c .before .before .before .before .before .before .before .before .before .before .before .before .before .before .before .before .line-listed in
-    let s = c .before .before .before .before .before .before .before .before .before .split-listed in
+    let at-else1 = c .before .before .before .before .before .before in
+    let at-split-listed = split-listed-of-else1 at-else1 in
+    let at-line-listed = line-listed-of-split-listed at-split-listed in
+    let at-loop = at-loop-of-line-listed at-line-listed in
+    let at-list-all = list-all-of-at-loop at-loop in
+    let at-choose-rest = choose-rest-of-list-all at-list-all in
+    let at-found-classes = found-classes-of-choose-rest at-choose-rest in
+    let at-forget-dominators = forget-dominators-of-found-classes at-found-classes in
+    let at-start = start-of-forget-dominators at-forget-dominators in
+    let g = at-start .args in
+    let l = at-loop .loop in
+    let u = at-line-listed .line-listed in
+    let s = at-split-listed .split-listed in
     let x = c .before .before .list-next in (
       omega (arith, l .inv .0, u .ensures .only .long, s .ensures .only .long, x .ensures .only .long),
       omega (arith, l .inv .1, u .ensures .grown .long),
       (λ v Y G. refining-next v (g .n) (g .m) (l .work) (l .sets) (g .width) (l .list) (l .k) (l .round) (l .count) (l .inv .2 v Y G)
-          (u .last .0) (u .last .1 .0) (u .ensures) (s .last .0) (s .result) (s .ensures) (c .before .before .before .before .before .before .if1 .left)
+          (u .last .0) (u .last .1 .0) (u .ensures) (s .last .0) (s .result) (s .ensures) (at-else1 .if1 .left)
           (x .last .0) (x .last .1 .1 .1 .1 .1 .0) (x .result) (x .ensures)),
     )
 

@@ -9,6 +9,23 @@ use Rattle.node_reader.specs.NodesFound.{node-refused, node-got}
 use Rattle.node_reader.proofs.node_at.Statement.{statement}
 use Rattle.node_reader.proofs.node_at.Tie as tie
 
+-- ---- the stages of the function, each from a later one
+abbrev k-of-first-at : tie.After-first-at → tie.After-k
+k-of-first-at s = s .before .before
+
+abbrev kind-at-of-k : tie.After-k → tie.After-kind-at
+kind-at-of-k s = s .before .before
+
+abbrev start-of-kind-at : tie.After-kind-at → tie.Start
+start-of-kind-at s = s .before .before
+
+abbrev first-at-of-f : tie.After-f → tie.After-first-at
+first-at-of-f s = s .before .before
+
+abbrev f-of-second-at : tie.After-second-at → tie.After-f
+f-of-second-at s = s .before .before
+
+-- ---- what is left to show
 kind-at-requires : tie.Need-kind-at-requires
 kind-at-requires c κs = search needs
 
@@ -38,16 +55,27 @@ enum-told-2 c = search needs
 
 returns-2 : tie.Need-returns-2
 unfolding nodeFieldsAt
-returns-2 c = let a = c .before .before .before .before .before .before .before .before .args in
+returns-2 c =
+    let at-first-at = c .before .before in
+    let at-k = k-of-first-at at-first-at in
+    let at-kind-at = kind-at-of-k at-k in
+    let at-start = start-of-kind-at at-kind-at in
+    let a = at-start .args in
     let rules = rulesIn (a .rules .now) (a .rule-count) in
     node-refused (a .facts) rules (a .nodes) (a .number) (a .s .now) (a .at) _ (c .enum-told2 .given .1)
-    (got-then (c .before .before .before .before .before .before .kind-at .ensures) _ (c .before .before .before .before .k .given .1)
-    ∙ sym (refused-then (c .before .before .first-at .ensures) _ (c .enum-told2 .given .1)))
+    (got-then (at-kind-at .kind-at .ensures) _ (at-k .k .given .1)
+    ∙ sym (refused-then (at-first-at .first-at .ensures) _ (c .enum-told2 .given .1)))
 
 second-at-requires : tie.Need-second-at-requires
-second-at-requires c κs = let a = c .before .before .before .before .before .before .before .before .before .args in
-    let read = answer-got (c .before .before .before .first-at .ensures) (c .before .f .given .1) in
-    first-gets (c .before .before .before .before .before .k .given .0 .0) (a .facts) (a .number) (a .s .now) (c .before .before .before .before .before .k .given .0 .1 .0) .holds _ _ read .within
+second-at-requires c κs =
+    let at-f = c .before in
+    let at-first-at = first-at-of-f at-f in
+    let at-k = k-of-first-at at-first-at in
+    let at-kind-at = kind-at-of-k at-k in
+    let at-start = start-of-kind-at at-kind-at in
+    let a = at-start .args in
+    let read = answer-got (at-first-at .first-at .ensures) (at-f .f .given .1) in
+    first-gets (at-k .k .given .0 .0) (a .facts) (a .number) (a .s .now) (at-k .k .given .0 .1 .0) .holds _ _ read .within
 
 enum-known-g : tie.Need-enum-known-g
 enum-known-g c = search needs
@@ -57,26 +85,40 @@ enum-told-3 c = search needs
 
 returns-3 : tie.Need-returns-3
 unfolding nodeFieldsAt
-returns-3 c = let a = c .before .before .before .before .before .before .before .before .before .before .before .before .args in
+returns-3 c =
+    let at-second-at = c .before .before in
+    let at-f = f-of-second-at at-second-at in
+    let at-first-at = first-at-of-f at-f in
+    let at-k = k-of-first-at at-first-at in
+    let at-kind-at = kind-at-of-k at-k in
+    let at-start = start-of-kind-at at-kind-at in
+    let a = at-start .args in
     let rules = rulesIn (a .rules .now) (a .rule-count) in
     node-refused (a .facts) rules (a .nodes) (a .number) (a .s .now) (a .at) _ (c .enum-told3 .given .1)
-    (got-then (c .before .before .before .before .before .before .before .before .before .before .kind-at .ensures) _ (c .before .before .before .before .before .before .before .before .k .given .1)
-    ∙ got-then (c .before .before .before .before .before .before .first-at .ensures) _ (c .before .before .before .before .f .given .1)
-    ∙ sym (refused-then (c .before .before .second-at .ensures) _ (c .enum-told3 .given .1)))
+    (got-then (at-kind-at .kind-at .ensures) _ (at-k .k .given .1)
+    ∙ got-then (at-first-at .first-at .ensures) _ (at-f .f .given .1)
+    ∙ sym (refused-then (at-second-at .second-at .ensures) _ (c .enum-told3 .given .1)))
 
 held-first-requires : tie.Need-held-first-requires
 held-first-requires c κs = search needs
 
 returns-4 : tie.Need-returns-4
 unfolding nodeFieldsAt
-returns-4 c = let a = c .before .before .before .before .before .before .before .before .before .before .before .before .before .before .args in
+returns-4 c =
+    let at-second-at = c .before .before .before .before in
+    let at-f = f-of-second-at at-second-at in
+    let at-first-at = first-at-of-f at-f in
+    let at-k = k-of-first-at at-first-at in
+    let at-kind-at = kind-at-of-k at-k in
+    let at-start = start-of-kind-at at-kind-at in
+    let a = at-start .args in
     let rules = rulesIn (a .rules .now) (a .rule-count) in
-    let kind = answer-got (c .before .before .before .before .before .before .before .before .before .before .before .before .kind-at .ensures) (c .before .before .before .before .before .before .before .before .before .before .k .given .1) in
+    let kind = answer-got (at-kind-at .kind-at .ensures) (at-k .k .given .1) in
     node-got (a .facts) rules (a .nodes) (a .number) (a .s .now) (a .at) _ _ _ _ refl
     (kind-gets (a .s .now) (a .at) .holds _ _ kind .1) (c .held-first .ensures)
-    (got-then (c .before .before .before .before .before .before .before .before .before .before .before .before .kind-at .ensures) _ (c .before .before .before .before .before .before .before .before .before .before .k .given .1)
-    ∙ got-then (c .before .before .before .before .before .before .before .before .first-at .ensures) _ (c .before .before .before .before .before .before .f .given .1)
-    ∙ got-then (c .before .before .before .before .second-at .ensures) _ (c .before .before .g .given .1))
+    (got-then (at-kind-at .kind-at .ensures) _ (at-k .k .given .1)
+    ∙ got-then (at-first-at .first-at .ensures) _ (at-f .f .given .1)
+    ∙ got-then (at-second-at .second-at .ensures) _ (c .before .before .g .given .1))
 
 pub node-at-spec : {M : Type 1} → statement M
 node-at-spec =

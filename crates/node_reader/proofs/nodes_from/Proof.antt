@@ -22,6 +22,17 @@ abbrev μ-loop : tie.MeasureT-loop
 μ-loop s facts rules rule-count n at kinds₀ firsts₀ seconds₀ counts₀ threads₀ p₀ i₀ kinds firsts seconds counts threads p i =
     n - i
 
+-- ---- the stages of the function, each from a later one
+abbrev node-at-of-answer : tie.After-answer Inv-loop μ-loop → tie.After-node-at Inv-loop μ-loop
+node-at-of-answer s = s .before .before
+
+abbrev at-loop-of-node-at : tie.After-node-at Inv-loop μ-loop → tie.At-loop Inv-loop μ-loop
+at-loop-of-node-at s = s .before .before
+
+abbrev start-of-at-loop : tie.At-loop Inv-loop μ-loop → tie.Start Inv-loop μ-loop
+start-of-at-loop s = s .before .before
+
+-- ---- what is left to show
 loop-holds : tie.Need-loop-holds Inv-loop μ-loop
 loop-holds c =
     let a = c .before .args in (
@@ -58,26 +69,34 @@ cast-k c = search needs
 
 open-node-requires : tie.Need-open-node-requires Inv-loop μ-loop
 open-node-requires c κs =
-    let a = c .before .before .before .before .before .before .before .before .before .args in
-    let l = c .before .before .before .before .before .before .before .loop in
+    let at-answer = c .before .before .before in
+    let at-node-at = node-at-of-answer at-answer in
+    let at-loop = at-loop-of-node-at at-node-at in
+    let at-start = start-of-at-loop at-loop in
+    let a = at-start .args in
+    let l = at-loop .loop in
     let rules = rulesIn (a .rules .now) (a .rule-count) in
     let nodes = nodesOf (l .kinds) (l .firsts) (l .seconds) in
     let o = tableIn (l .counts) (l .threads) in
     let few = subst (Few o) (tabulate-length (nodeIn nodes) (l .i)) (l .inv .2 .table .few) in
-    (omega arith, l .inv .2 .room .threads, few, next-fits (a .facts) rules (a .n) (a .s .now) nodes o (l .i) (l .p) (l .inv .2 .table) (c .before .before .before .before .before .node-at .result) (c .before .before .before .before .before .node-at .ensures) (c .before .before .before .answer .given .1) .0)
+    (omega arith, l .inv .2 .room .threads, few, next-fits (a .facts) rules (a .n) (a .s .now) nodes o (l .i) (l .p) (l .inv .2 .table) (at-node-at .node-at .result) (at-node-at .node-at .ensures) (at-answer .answer .given .1) .0)
 
 no-nodes-requires-2 : tie.Need-no-nodes-requires-2 Inv-loop μ-loop
 no-nodes-requires-2 c κs = search needs
 
 returns-2 : tie.Need-returns-2 Inv-loop μ-loop
 returns-2 c =
-    let a = c .before .before .before .before .before .before .before .before .before .before .before .before .args in
-    let l = c .before .before .before .before .before .before .before .before .before .before .loop in
+    let at-answer = c .before .before .before .before .before .before in
+    let at-node-at = node-at-of-answer at-answer in
+    let at-loop = at-loop-of-node-at at-node-at in
+    let at-start = start-of-at-loop at-loop in
+    let a = at-start .args in
+    let l = at-loop .loop in
     let rules = rulesIn (a .rules .now) (a .rule-count) in
     let nodes = nodesOf (l .kinds) (l .firsts) (l .seconds) in
     let o = tableIn (l .counts) (l .threads) in
     so-far-refused (a .facts) rules (a .n) (a .s .now) (a .at) (l .i) (l .p) nodes o (l .inv .2) (c .no-nodes2 .result) (omega arith) (c .no-nodes2 .ensures)
-    (next-many (a .facts) rules (a .n) (a .s .now) nodes o (l .i) (l .p) (l .inv .2 .table) (c .before .before .before .before .before .before .before .before .node-at .result) (c .before .before .before .before .before .before .before .before .node-at .ensures) (c .before .before .before .before .before .before .answer .given .1) (openedNode (c .before .before .open-node .result) (c .before .before .open-node .last .0) (c .before .before .open-node .last .1 .0)) (c .before .before .open-node .ensures) (omega arith))
+    (next-many (a .facts) rules (a .n) (a .s .now) nodes o (l .i) (l .p) (l .inv .2 .table) (at-node-at .node-at .result) (at-node-at .node-at .ensures) (at-answer .answer .given .1) (openedNode (c .before .before .open-node .result) (c .before .before .open-node .last .0) (c .before .before .open-node .last .1 .0)) (c .before .before .open-node .ensures) (omega arith))
 
 cast-kinds : tie.Need-cast-kinds Inv-loop μ-loop
 cast-kinds c =
@@ -107,12 +126,16 @@ loop-less c = search needs
 
 loop-again : tie.Need-loop-again Inv-loop μ-loop
 loop-again c =
-    let a = c .before .before .before .before .before .before .before .before .before .before .before .args in
-    let l = c .before .before .before .before .before .before .before .before .before .loop in
+    let at-answer = c .before .before .before .before .before in
+    let at-node-at = node-at-of-answer at-answer in
+    let at-loop = at-loop-of-node-at at-node-at in
+    let at-start = start-of-at-loop at-loop in
+    let a = at-start .args in
+    let l = at-loop .loop in
     let rules = rulesIn (a .rules .now) (a .rule-count) in
     let nodes = nodesOf (l .kinds) (l .firsts) (l .seconds) in
     let o = tableIn (l .counts) (l .threads) in
-    let one = next-few (a .facts) rules (a .n) (a .s .now) nodes o (l .i) (l .p) (l .inv .2 .table) (c .before .before .before .before .before .before .before .node-at .result) (c .before .before .before .before .before .before .before .node-at .ensures) (c .before .before .before .before .before .answer .given .1) (openedNode (c .before .open-node .result) (c .before .open-node .last .0) (c .before .open-node .last .1 .0)) (c .before .open-node .ensures) (omega arith) (l .inv .2 .room) (omega arith) in
+    let one = next-few (a .facts) rules (a .n) (a .s .now) nodes o (l .i) (l .p) (l .inv .2 .table) (at-node-at .node-at .result) (at-node-at .node-at .ensures) (at-answer .answer .given .1) (openedNode (c .before .open-node .result) (c .before .open-node .last .0) (c .before .open-node .last .1 .0)) (c .before .open-node .ensures) (omega arith) (l .inv .2 .room) (omega arith) in
     (omega arith, one .within, so-far-next (a .facts) rules (a .n) (a .s .now) (a .at) (l .i) (l .p) nodes o (l .inv .2) (omega arith) _ _ _ one)
 
 returns-3 : tie.Need-returns-3 Inv-loop μ-loop

@@ -5,6 +5,14 @@ use Rattle.trail_search.specs.TrailTests.{place-fits, move-of, move-fits
 use Rattle.trail_search.proofs.take_move.Statement.{statement}
 use Rattle.trail_search.proofs.take_move.Tie as tie
 
+-- ---- the stages of the function, each from a later one
+abbrev move-total-of-telling2 : tie.After-telling2 → tie.After-move-total
+move-total-of-telling2 s = s .before .before
+
+abbrev start-of-telling : tie.After-telling → tie.Start
+start-of-telling s = s .before .before
+
+-- ---- what is left to show
 telling-requires : tie.Need-telling-requires
 telling-requires c κs = c .before .pre
 
@@ -92,56 +100,76 @@ first-move-requires-2 c κs =
 
 add-t18 : tie.Need-add-t18
 add-t18 c =
-    let p = c .before .before .before .before .before .before .before .before .pre in
-    let g = c .before .before .before .before .before .before .before .before .args in
+    let at-telling2 = c .before .before .before in
+    let at-move-total = move-total-of-telling2 at-telling2 in
+    let at-telling = at-move-total .before in
+    let at-start = start-of-telling at-telling in
+    let p = at-start .pre in
+    let g = at-start .args in
     let f = c .first-move2 in
     let t = c .before .before .move-total2 in
-    let j = c .before .before .before .telling2 in
+    let j = at-telling2 .telling2 in
     let m = move-fits (p .0) (move-of (g .work .now) (g .n) (g .q) (f .result) (j .result) (t .result) (p .2) (f .ensures) (t .ensures)
     (omega arith)) in
     omega (arith, m .span, m .long)
 
 add-t19 : tie.Need-add-t19
 add-t19 c =
-    let p = c .before .before .before .before .before .before .before .before .pre in
-    let g = c .before .before .before .before .before .before .before .before .args in
+    let at-telling2 = c .before .before .before in
+    let at-move-total = move-total-of-telling2 at-telling2 in
+    let at-telling = at-move-total .before in
+    let at-start = start-of-telling at-telling in
+    let p = at-start .pre in
+    let g = at-start .args in
     let f = c .first-move2 in
     let t = c .before .before .move-total2 in
-    let j = c .before .before .before .telling2 in
+    let j = at-telling2 .telling2 in
     let m = move-fits (p .0) (move-of (g .work .now) (g .n) (g .q) (f .result) (j .result) (t .result) (p .2) (f .ensures) (t .ensures)
     (omega arith)) in
     omega (arith, m .span, m .long)
 
 mul-t20 : tie.Need-mul-t20
 mul-t20 c =
-    let p = c .before .before .before .before .before .before .before .before .pre in
-    let g = c .before .before .before .before .before .before .before .before .args in
+    let at-telling2 = c .before .before .before in
+    let at-move-total = move-total-of-telling2 at-telling2 in
+    let at-telling = at-move-total .before in
+    let at-start = start-of-telling at-telling in
+    let p = at-start .pre in
+    let g = at-start .args in
     let f = c .first-move2 in
     let t = c .before .before .move-total2 in
-    let j = c .before .before .before .telling2 in
+    let j = at-telling2 .telling2 in
     let m = move-fits (p .0) (move-of (g .work .now) (g .n) (g .q) (f .result) (j .result) (t .result) (p .2) (f .ensures) (t .ensures)
     (omega arith)) in
     omega (arith, m .span, m .long)
 
 shared-slice-read-t22 : tie.Need-shared-slice-read-t22
 shared-slice-read-t22 c =
-    let p = c .before .before .before .before .before .before .before .before .before .pre in
-    let g = c .before .before .before .before .before .before .before .before .before .args in
+    let at-telling2 = c .before .before .before .before in
+    let at-move-total = move-total-of-telling2 at-telling2 in
+    let at-telling = at-move-total .before in
+    let at-start = start-of-telling at-telling in
+    let p = at-start .pre in
+    let g = at-start .args in
     let f = c .before .first-move2 in
     let t = c .before .before .before .move-total2 in
-    let j = c .before .before .before .before .telling2 in
+    let j = at-telling2 .telling2 in
     let m = move-fits (p .0) (move-of (g .work .now) (g .n) (g .q) (f .result) (j .result) (t .result) (p .2) (f .ensures) (t .ensures)
     (omega arith)) in
     omega (arith, m .span, m .long)
 
 returns-2 : tie.Need-returns-2
 returns-2 c =
-    let g = c .before .before .before .before .before .before .before .before .before .args in
+    let at-telling2 = c .before .before .before .before in
+    let at-move-total = move-total-of-telling2 at-telling2 in
+    let at-telling = at-move-total .before in
+    let at-start = start-of-telling at-telling in
+    let g = at-start .args in
     let f = c .before .first-move2 in
     let t = c .before .before .before .move-total2 in
-    let k = c .before .before .before .before .telling2 in
-    let s = c .before .before .before .before .before .before .move-total in
-    let j = c .before .before .before .before .before .before .before .telling in
+    let k = at-telling2 .telling2 in
+    let s = at-move-total .move-total in
+    let j = at-telling .telling in
     takes-right (g .work .now) (g .n) (g .last) (g .r) (g .p) (g .q) (j .result) (j .ensures) (omega (arith, s .ensures)) (k .result)
     (f .result) (k .ensures)
     (omega (arith, t .ensures)) (f .ensures)

@@ -18,6 +18,23 @@ Inv-loop w₀ n last p q left₀ right₀ k₀ w left right k = Following w₀ n
 abbrev μ-loop : tie.MeasureT-loop
 μ-loop w₀ n last p q left₀ right₀ k₀ w left right k = last - k
 
+-- ---- the stages of the function, each from a later one
+abbrev at-loop-of-apart-at : tie.After-apart-at Inv-loop μ-loop → tie.At-loop Inv-loop μ-loop
+at-loop-of-apart-at s = s .before .before .before
+
+abbrev start-of-at-loop : tie.At-loop Inv-loop μ-loop → tie.Start Inv-loop μ-loop
+start-of-at-loop s = s .before .before
+
+abbrev take-move-of-other-of : tie.After-other-of Inv-loop μ-loop → tie.After-take-move Inv-loop μ-loop
+take-move-of-other-of s = s .before .before
+
+abbrev apart-at-of-take-move : tie.After-take-move Inv-loop μ-loop → tie.After-apart-at Inv-loop μ-loop
+apart-at-of-take-move s = s .before .before .before .before
+
+abbrev reply-to-of-put-step : tie.After-put-step Inv-loop μ-loop → tie.After-reply-to Inv-loop μ-loop
+reply-to-of-put-step s = s .before .before
+
+-- ---- what is left to show
 loop-holds : tie.Need-loop-holds Inv-loop μ-loop
 loop-holds c =
     let P = c .before .pre in
@@ -51,9 +68,12 @@ sub-take-move c = search needs
 
 take-move-requires : tie.Need-take-move-requires Inv-loop μ-loop
 take-move-requires c κs =
-    let P = c .before .before .before .before .before .before .before .before .pre in
-    let g = c .before .before .before .before .before .before .before .before .args in
-    let l = c .before .before .before .before .before .before .loop in (
+    let at-apart-at = c .before .before .before in
+    let at-loop = at-loop-of-apart-at at-apart-at in
+    let at-start = start-of-at-loop at-loop in
+    let P = at-start .pre in
+    let g = at-start .args in
+    let l = at-loop .loop in (
       follows-now (g .work .now) (g .n) (g .last) (g .p) (g .q) (P .0) (P .1) (P .2) (l .work) (l .left) (l .right) (l .k)
           (l .inv),
       l .inv .lefts,
@@ -65,20 +85,31 @@ other-of-requires c κs = search needs
 
 reply-to-requires : tie.Need-reply-to-requires Inv-loop μ-loop
 reply-to-requires c κs =
-    let P = c .before .before .before .before .before .before .before .before .before .before .before .pre in
-    let g = c .before .before .before .before .before .before .before .before .before .before .before .args in
-    let l = c .before .before .before .before .before .before .before .before .before .loop in
-    let a = c .before .before .before .before .before .before .apart-at in
-    let t = c .before .before .take-move in
+    let at-other-of = c in
+    let at-take-move = take-move-of-other-of at-other-of in
+    let at-apart-at = apart-at-of-take-move at-take-move in
+    let at-loop = at-loop-of-apart-at at-apart-at in
+    let at-start = start-of-at-loop at-loop in
+    let P = at-start .pre in
+    let g = at-start .args in
+    let l = at-loop .loop in
+    let a = at-apart-at .apart-at in
+    let t = at-take-move .take-move in
     let o = c .other-of in
     reply-fits (g .work .now) (g .n) (g .last) (g .p) (g .q) (P .0) (P .1) (P .2) (l .work) (l .left) (l .right) (l .k) (l .inv) (a .result)
     (t .result .side) (t .result .number) (o .result) (a .ensures) (t .ensures) (o .ensures)
 
 put-step-requires : tie.Need-put-step-requires Inv-loop μ-loop
 put-step-requires c κs =
-    let P = c .before .before .before .before .before .before .before .before .before .before .before .before .before .pre in
-    let g = c .before .before .before .before .before .before .before .before .before .before .before .before .before .args in
-    let l = c .before .before .before .before .before .before .before .before .before .before .before .loop in
+    let at-reply-to = c .before in
+    let at-other-of = at-reply-to .before in
+    let at-take-move = take-move-of-other-of at-other-of in
+    let at-apart-at = apart-at-of-take-move at-take-move in
+    let at-loop = at-loop-of-apart-at at-apart-at in
+    let at-start = start-of-at-loop at-loop in
+    let P = at-start .pre in
+    let g = at-start .args in
+    let l = at-loop .loop in
     step-room (g .work .now) (g .n) (g .last) (g .p) (g .q) (P .0) (P .1) (P .2) (l .work) (l .left) (l .right) (l .k) (l .inv) (omega arith)
 
 add-k : tie.Need-add-k Inv-loop μ-loop
@@ -86,20 +117,30 @@ add-k c = search needs
 
 same-length-2 : tie.Need-same-length-2 Inv-loop μ-loop
 same-length-2 c =
-    let l = c .before .before .before .before .before .before .before .before .before .before .before .before .before .before .before .loop in
-    ap length (c .before .before .before .put-step .ensures) ∙ simp length-set (l .inv .outside .long)
+    let at-put-step = c .before .before .before in
+    let at-reply-to = reply-to-of-put-step at-put-step in
+    let at-other-of = at-reply-to .before in
+    let at-take-move = take-move-of-other-of at-other-of in
+    let at-apart-at = apart-at-of-take-move at-take-move in
+    let at-loop = at-loop-of-apart-at at-apart-at in
+    let l = at-loop .loop in
+    ap length (at-put-step .put-step .ensures) ∙ simp length-set (l .inv .outside .long)
 
 returns-2 : tie.Need-returns-2 Inv-loop μ-loop
 returns-2 c =
-    let b = c .before .before .before .before .before .before .before .before in
+    let at-put-step = c .before .before .before in
+    let at-reply-to = reply-to-of-put-step at-put-step in
+    let at-other-of = at-reply-to .before in
+    let at-take-move = take-move-of-other-of at-other-of in
+    let b = at-take-move in
     let P = b .before .before .before .before .before .before .before .before .before .pre in
     let g = b .before .before .before .before .before .before .before .before .before .args in
     let l = b .before .before .before .before .before .before .before .loop in
     let a = b .before .before .before .before .apart-at in
     let t = b .take-move in
-    let o = c .before .before .before .before .before .before .other-of in
-    let y = c .before .before .before .before .before .reply-to in
-    let s = c .before .before .before .put-step in
+    let o = at-other-of .other-of in
+    let y = at-reply-to .reply-to in
+    let s = at-put-step .put-step in
     step-alone (g .work .now) (g .n) (g .last) (g .p) (g .q) (P .0) (P .1) (P .2) (l .work) (l .left) (l .right) (l .k) (l .inv)
     (a .result) (t .result .side) (t .result .number) (o .result) (a .ensures) (t .ensures) (o .ensures)
     (y .result) (s .last .0)
@@ -114,15 +155,19 @@ loop-less c = omega arith
 
 loop-again : tie.Need-loop-again Inv-loop μ-loop
 loop-again c =
-    let b = c .before .before .before .before .before .before .before .before .before in
+    let at-put-step = c .before .before .before .before in
+    let at-reply-to = reply-to-of-put-step at-put-step in
+    let at-other-of = at-reply-to .before in
+    let at-take-move = take-move-of-other-of at-other-of in
+    let b = at-take-move in
     let P = b .before .before .before .before .before .before .before .before .before .pre in
     let g = b .before .before .before .before .before .before .before .before .before .args in
     let l = b .before .before .before .before .before .before .before .loop in
     let a = b .before .before .before .before .apart-at in
     let t = b .take-move in
-    let o = c .before .before .before .before .before .before .before .other-of in
-    let y = c .before .before .before .before .before .before .reply-to in
-    let s = c .before .before .before .before .put-step in
+    let o = at-other-of .other-of in
+    let y = at-reply-to .reply-to in
+    let s = at-put-step .put-step in
     let x = c .next-pair in
     step-on (g .work .now) (g .n) (g .last) (g .p) (g .q) (P .0) (P .1) (P .2) (l .work) (l .left) (l .right) (l .k) (l .inv)
     (a .result) (t .result .side) (t .result .number) (o .result) (a .ensures) (t .ensures) (o .ensures)
