@@ -15,9 +15,9 @@ use Rattle.list_laws.specs.Members.{any-no}
 use Rattle.list_laws.specs.ListPlaces.{getD-in}
 use Rattle.stores.specs.Stores.{Constraint}
 use Rattle.sheets.specs.SheetLimits.{maxFacts}
-use Rattle.sheets.specs.Sheet.{Configuration, Sheet}
+use Rattle.sheets.specs.Sheet.{Configuration, Sheet, start}
 use Rattle.sheets.specs.WellFormed.{OfSheet, Admissible, WellFormed}
-use Rattle.sheet_laws.specs.ReadingLaws.{choice-reads, read-admissible}
+use Rattle.sheet_laws.specs.ReadingLaws.{written-admissible}
 use Rattle.moves.specs.Orders.{Move}
 use Rattle.moves.specs.Moves.{moves}
 use Rattle.refinement_laws.specs.StableRounds.{member-of}
@@ -29,7 +29,7 @@ use Rattle.comparison.specs.Rounds.{rounds, classes, refined, resultOf, apartIn
 use Rattle.comparison.specs.Trail.{Side, left, right, Reply, none, move, TrailStep, after, firstOf, replyTo, unanswered, trailFrom}
 use Rattle.comparison_laws.specs.TrailLaws.{unanswered-mem, reply-mem, trail-length}
 use Rattle.comparison.specs.Report.{Report, reportOn}
-use Rattle.comparison.specs.Frame.{reported, start}
+use Rattle.comparison.specs.Outcome.{reported}
 use Rattle.comparison.specs.Call.{compareWith}
 use Rattle.comparison.specs.Promise.{PassesLimit, startsOf}
 use Rattle.comparison_laws.specs.SetLaws.{explored-seeds, explored-member, explored-ascends, explored-closed, fits-not-over, limit-passed}
@@ -200,12 +200,12 @@ pub outcome-fits : (l : Limits) → NoGreater l limits → (bytes : List ℕ) (f
 outcome-fits l small bytes first second work answer q e =
     let g = reports-exactly l bytes first second work answer q .0 e in
     let sheet : Sheet = g .sheet in
-    let c = choice-reads bytes first second sheet (g .end) (g .read) in
-    let fine : Admissible sheet = read-admissible bytes sheet (g .end) (c .read) in
+    let c = g .chosen in
+    let fine : Admissible sheet = written-admissible bytes sheet (c .written) in
     subst Fitting (sym (g .report))
     (report-fits sheet fine l small (start sheet first) (start sheet second)
-    (fine .starts-fit (start sheet first) (getD-in (sheet .starts) first (record { store = 0; threads = [] }) (c .left-start)))
-    (fine .starts-fit (start sheet second) (getD-in (sheet .starts) second (record { store = 0; threads = [] }) (c .right-start)))
+    (fine .starts-fit (start sheet first) (getD-in (sheet .starts) first (record { store = 0; threads = [] }) (c .left-there)))
+    (fine .starts-fit (start sheet second) (getD-in (sheet .starts) second (record { store = 0; threads = [] }) (c .right-there)))
     (fits-where sheet (fits sheet l (explored sheet l (startsOf sheet first second))) refl (g .no-limit)))
   where
     fits-where : (sheet : Sheet) (b : Bool) → fits sheet l (explored sheet l (startsOf sheet first second)) ≡ b

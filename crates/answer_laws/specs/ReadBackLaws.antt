@@ -11,13 +11,13 @@ use borrow.Author.Tests.{ne-eqb}
 use Rattle.lists.specs.Lists.{concatMap}
 use Rattle.list_laws.specs.ListPlaces.{getD-any}
 use Rattle.sheets.specs.Sheet.{Configuration}
-use Rattle.sheets.specs.Reading.{word}
+use Rattle.sheets.specs.SheetBytes.{word, wordBytes}
 use Rattle.comparison.specs.CallLimits.{noReply}
 use Rattle.comparison.specs.Classes.{placeOf, classOf}
 use Rattle.comparison_laws.specs.ClassLaws.{placeOf-lt, placeOf-at}
 use Rattle.moves.specs.Orders.{Move}
 use Rattle.comparison.specs.Trail.{Side, left, right, Reply, none, move, TrailStep}
-use Rattle.comparison.specs.Report.{Report, wordBytes, memberBytes, stepBytes, sideByte, replyNumber, reportBytes}
+use Rattle.comparison.specs.Report.{Report, memberBytes, stepBytes, sideByte, replyNumber, reportBytes}
 use Rattle.answers.specs.ReadBack.{memberFirst, classFirst, behindThreads, behindMember, membersRead, classesRead, behindMembers, sideRead, memberWith, replyRead, stepFirst, stepsRead, readBack}
 use Rattle.answer_laws.specs.Fitting.{ReplyFits, StepFits, Fitting}
 use Rattle.answer_laws.specs.MemberPlaces.{place-of-member}

@@ -4,9 +4,9 @@ use mathlib.Core.List.{List, [], _∷_}
 use Prim.Native.Nat.{ℕ, _≤_}
 use native.Mathlib.Omega.{arith}
 use Rattle.comparison.specs.CallLimits.{Limits}
-use Rattle.comparison.specs.Report.{Verdict, SAME, DIFF, reportLength}
-use Rattle.comparison.specs.Frame.{reported, refusal}
-use Rattle.comparison.specs.Call.{Compares, compare, compareWith}
+use Rattle.comparison.specs.Report.{Verdict, SAME, DIFF, reportLength, Compares}
+use Rattle.comparison.specs.Outcome.{reported, refusal}
+use Rattle.comparison.specs.Call.{compare, compareWith}
 use Rattle.comparison.specs.Promise.{Refuses, by-sheet, short-work, large-set, short-answer}
 use Rattle.comparison_laws.specs.CallTheorem.{refuses-exactly}
 use Rattle.answers.specs.declared.Reported.{Reported}
@@ -14,6 +14,7 @@ use Rattle.answers.specs.declared.Answer.{Answer}
 use Rattle.answers.specs.declared.Answer.the-variants.{Report, Refused}
 use Rattle.answers.specs.Returned.{isSame, returned}
 use Rattle.compare_call.specs.Compared.{Compared}
+use Rattle.sheet_reading.specs.SheetRead.{choice-reads}
 use Rattle.sheet_laws.specs.RefusalNumbers.{number-low}
 use Rattle.answer_numbers.specs.AnswerNumbers.{outcomeNumber, outcomeNumbers, verdictNumber, Handed, sameNumber, answerNumber, answerNumbers}
 
@@ -52,10 +53,10 @@ call-handed {o} c n ns =
     }
 
 above : (l : Limits) (bytes : List ℕ) (left right work answer number place : ℕ) → Refuses l bytes left right work answer number place → 1 ≤ number
-above l bytes left right work answer number place (by-sheet e) = number-low bytes left right number place e .above
-above l bytes left right work answer _ _ (short-work sheet end r h) = omega arith
-above l bytes left right work answer _ _ (large-set sheet end r h p) = omega arith
-above l bytes left right work answer _ _ (short-answer sheet end r h p k) = omega arith
+above l bytes left right work answer number place (by-sheet e) = number-low bytes left right number place (choice-reads bytes left right .is-refused number place e) .above
+above l bytes left right work answer _ _ (short-work sheet r h) = omega arith
+above l bytes left right work answer _ _ (large-set sheet r h p) = omega arith
+above l bytes left right work answer _ _ (short-answer sheet r h p k) = omega arith
 
 -- so 0 is returned for a report alone
 pub refusal-above : (l : Limits) (bytes : List ℕ) (left right work answer number place : ℕ)

@@ -3,9 +3,9 @@ use mathlib.Core.Path.{_≡_}
 use mathlib.Core.Bool.{Bool, true, false}
 use mathlib.Core.List.{List, [], _∷_}
 use Prim.Native.Nat.{ℕ}
-use Rattle.comparison.specs.Report.{Verdict, SAME, DIFF, reportLength}
-use Rattle.comparison.specs.Frame.{reported, refusal, workAfter}
-use Rattle.comparison.specs.Call.{Compares, answerAfter}
+use Rattle.comparison.specs.Report.{Verdict, SAME, DIFF, reportLength, Compares}
+use Rattle.comparison.specs.Outcome.{reported, refusal, workAfter}
+use Rattle.comparison.specs.Call.{answerAfter}
 use Rattle.answers.specs.declared.Answer.{Answer}
 use Rattle.answers.specs.declared.Answer.the-variants.{Report, Refused}
 

@@ -1,2 +1,3 @@
 pub mod AnswerNumbers
+pub mod KnownNumbers
 pub mod AnswerNumberLaws

@@ -5,7 +5,7 @@ use Prim.Native.Nat.{ℕ, zero, suc}
 use lib.ListN.{getD, take, drop}
 use lib.Dec.{eqb}
 use Rattle.sheets.specs.Sheet.{Configuration}
-use Rattle.sheets.specs.Reading.{word}
+use Rattle.sheets.specs.SheetBytes.{word}
 use Rattle.comparison.specs.CallLimits.{noReply}
 use Rattle.comparison.specs.Trail.{Side, left, right, Reply, none, move, TrailStep}
 use Rattle.comparison.specs.Report.{Verdict, Report}

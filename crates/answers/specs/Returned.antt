@@ -1,9 +1,8 @@
 -- What the comparing call returns of document 01's outcome.
 use mathlib.Core.Bool.{Bool, true, false}
 use Rattle.comparison.specs.Report as spec
-use Rattle.comparison.specs.Report.{Verdict, SAME, DIFF, reportLength}
-use Rattle.comparison.specs.Frame.{reported, refusal}
-use Rattle.comparison.specs.Call.{Compares}
+use Rattle.comparison.specs.Report.{Verdict, SAME, DIFF, reportLength, Compares}
+use Rattle.comparison.specs.Outcome.{reported, refusal}
 use Rattle.answers.specs.declared.Reported.{Reported}
 use Rattle.answers.specs.declared.Answer.{Answer}
 use Rattle.answers.specs.declared.Answer.the-variants.{Report, Refused}

@@ -7,7 +7,7 @@ use lib.ListN.{length, getD, set}
 use Rattle.ask_labels.specs.declared.Shelf.{Shelf}
 use Rattle.ask_labels.specs.declared.Labelled.{Labelled}
 use Rattle.list_laws.specs.Frames.{SameOutside}
-use Rattle.ask_labels.specs.AskLabels.{TableOf, LabelsAre, part}
+use Rattle.label_search.specs.AskLabels.{TableOf, LabelsAre, part}
 use Rattle.work_layout.specs.WorkLayout.{headsAt, listsAt, listsEnd}
 
 -- how many entries there are at most

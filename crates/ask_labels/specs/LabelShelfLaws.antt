@@ -12,11 +12,11 @@ use lib.Dec.{eqb}
 use borrow.Author.Tests.{eqb-true, eqb-false}
 use Rattle.ask_labels.specs.declared.Shelf.{Shelf}
 use Rattle.ask_labels.specs.declared.Labelled.{Labelled}
-use Rattle.ask_labels.specs.FactsOutside.{outside}
-use Rattle.ask_labels.specs.LabelOrder.{labels-missing}
+use Rattle.label_search.specs.FactsOutside.{outside}
+use Rattle.label_search.specs.LabelOrder.{labels-missing}
 use Rattle.list_laws.specs.Frames.{SameOutside, outside-same, outside-again, outside-wider, outside-set}
-use Rattle.ask_labels.specs.AskLabels.{LabelsAre, part}
-use Rattle.ask_labels.specs.LabelScanLaws.{part-agree, labels-agree, table-agree}
+use Rattle.label_search.specs.AskLabels.{LabelsAre, part}
+use Rattle.label_search.specs.LabelScanLaws.{part-agree, labels-agree, table-agree}
 use Rattle.ask_labels.specs.LabelShelf.{maxSets, askedOf, firstOf, endOf, putEntry, EntryAt, Shelved, noEntries, HasRoom, ShelfRoom, LabelsGiven}
 use Rattle.work_layout.specs.WorkLayout.{headsAt, listsAt, listsEnd}
 

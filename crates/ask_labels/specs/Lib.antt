@@ -1,7 +1,2 @@
-pub mod FactsOutside
-pub mod LabelOrder
-pub mod AskLabels
-pub mod FoundLabelLaws
-pub mod LabelScanLaws
 pub mod LabelShelf
 pub mod LabelShelfLaws

@@ -5,10 +5,10 @@ use Prim.Native.Nat.{ℕ, _≤_, _<_}
 use lib.ListN.{length}
 use Rattle.sheets.specs.SheetLimits.{maxThreads}
 use Rattle.sheets.specs.Refusals.{largeSet, shortWork}
-use Rattle.sheets.specs.Sheet.{Configuration, Sheet}
-use Rattle.sheets.specs.Reading.{got, refused, readChoice}
+use Rattle.sheets.specs.Sheet.{Configuration, Sheet, start}
+use Rattle.sheet_reading.specs.Reading.{got, refused, readChoice}
 use Rattle.comparison.specs.CallLimits.{Limits}
-use Rattle.comparison.specs.Frame.{start, cleared}
+use Rattle.comparison.specs.Outcome.{cleared}
 use Rattle.comparison.specs.Promise.{PassesLimit, startsOf}
 use Rattle.work_layout.specs.WorkLayout.{workEnd}
 use Rattle.sheet_types.specs.HeldSheet.{configuration}

@@ -12,12 +12,14 @@ use Rattle.list_laws.specs.Frames.{SameOutside, outside-drop}
 use Rattle.sheets.specs.Refusals.{largeSet, shortAnswer, shortWork}
 use Rattle.sheets.specs.Sheet as spec
 use Rattle.sheets.specs.WellFormed.{Admissible}
-use Rattle.sheets.specs.Reading.{Reading, got, refused, readChoice}
-use Rattle.sheet_laws.specs.ReadingLaws.{choice-reads, read-admissible}
+use Rattle.sheet_reading.specs.Reading.{Reading, got, refused, readChoice}
+use Rattle.sheet_laws.specs.ReadingLaws.{choice-read, read-admissible}
 use Rattle.sheet_laws.specs.RefusalNumbers.{number-low}
 use Rattle.comparison.specs.CallLimits.{Limits, workLength}
 use Rattle.comparison.specs.Set.{explored, fits}
-use Rattle.comparison.specs.Frame.{Outcome, refusal, start, withSet, withWork, withSheet, cleared, clears, workRefused}
+use Rattle.comparison.specs.Outcome.{Outcome, refusal, cleared, clears, workRefused}
+use Rattle.sheets.specs.Sheet.{start}
+use Rattle.comparison.specs.Frame.{withSet, withWork, withSheet}
 use Rattle.comparison.specs.Promise.{PassesLimit, startsOf}
 use Rattle.comparison_laws.specs.SetLaws.{fits-exactly}
 use Rattle.work_layout.specs.WorkLayout.{workEnd, memberRoom}
@@ -160,7 +162,7 @@ module _ {A : Type 0} (on : spec.Sheet → List spec.Configuration → Outcome A
         sheet = sheet;
         end = end;
         read = e;
-        fine = read-admissible bytes sheet end (choice-reads bytes left right sheet end e .read);
+        fine = read-admissible bytes sheet end (choice-read bytes left right sheet end e .read);
         long = x .long;
         whole = x .whole;
         outcome = read-as (got sheet end) (length v) e ∙ long-enough sheet v (x .long) ∙ fitting-set sheet v (x .whole .fit);

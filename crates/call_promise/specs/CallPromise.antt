@@ -6,12 +6,12 @@ use mathlib.Core.Bool.{Bool, true, false}
 use mathlib.Core.List.{List, _++_}
 use Prim.Native.Nat.{ℕ}
 use lib.ListN.{length, drop}
-use Rattle.sheets.specs.Sheet.{Sheet}
-use Rattle.sheets.specs.Reading.{got, readChoice}
+use Rattle.sheets.specs.Sheet.{Sheet, start}
+use Rattle.sheets.specs.SheetBytes.{ChoiceIs}
 use Rattle.comparison.specs.CallLimits.{Limits}
 use Rattle.comparison.specs.Report as spec
 use Rattle.comparison.specs.Report.{Verdict, SAME, DIFF, reportBytes, reportLength}
-use Rattle.comparison.specs.Frame.{start, cleared, workRefused}
+use Rattle.comparison.specs.Outcome.{cleared, workRefused}
 use Rattle.comparison.specs.Promise.{Refuses, Reports, Faithful}
 use Rattle.answers.specs.ReadBack.{readBack}
 use Rattle.answers.specs.declared.Reported.{Reported}
@@ -38,8 +38,7 @@ pub record RefusalPromise (l : Limits) (bytes : List ℕ) (left right : ℕ) (v 
 -- sheet; its bytes stand in front of the answer slice, and the rest of it is as before; the work slice is cleared.
 pub record ReportPromise (l : Limits) (bytes : List ℕ) (left right : ℕ) (v before w after : List ℕ) (x : Reported) : Type 1 where
   pub reports : Reports l bytes left right (length v) (length before) (reportRead x after)
-  pub faithful : (sheet : Sheet) × (end : ℕ) × (readChoice bytes left right ≡ got sheet end)
-      × Faithful sheet (start sheet left) (start sheet right) (reportRead x after)
+  pub faithful : (sheet : Sheet) × ChoiceIs bytes left right sheet × Faithful sheet (start sheet left) (start sheet right) (reportRead x after)
   pub long : x .length ≡ reportLength (reportRead x after)
   pub written : after ≡ reportBytes (reportRead x after) ++ drop (x .length) before
   pub work : w ≡ cleared v

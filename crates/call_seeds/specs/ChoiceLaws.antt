@@ -6,12 +6,12 @@ use native.Mathlib.Omega.{arith}
 use lib.ListN.{length, getD, set, length-set}
 use lib.Seq.{getD-set-same, getD-set-other}
 use Rattle.list_laws.specs.Tabulate.{tabulate, tabulate-length, tabulate-at}
-use Rattle.list_laws.specs.ListPlaces.{getD-in, getD-any}
+use Rattle.list_laws.specs.ListPlaces.{getD-in}
 use Rattle.sheets.specs.SheetLimits.{maxThreads}
 use Rattle.sheets.specs.Sheet as spec
 use Rattle.sheets.specs.WellFormed.{Admissible, OfSheet}
-use Rattle.sheets.specs.Reading.{got, readChoice}
-use Rattle.sheet_laws.specs.ReadingLaws.{ChoiceRead, choice-reads, read-admissible}
+use Rattle.sheet_reading.specs.Reading.{got, readChoice}
+use Rattle.sheet_laws.specs.ReadingLaws.{ChoiceRead, choice-read, read-admissible}
 use Rattle.sheet_types.specs.HeldSheet.{configuration, noConfiguration, startsIn, sheetOf}
 use Rattle.sheet_types.specs.SectionLaws.{with-got}
 use Rattle.sheet_types.specs.declared.Configuration.{Configuration}
@@ -19,7 +19,7 @@ use Rattle.sheet_types.specs.declared.Section.the-variants.{Got}
 use Rattle.sheet_types.specs.declared.Sheet.{Sheet}
 use Rattle.sheet_types.specs.declared.SheetRead.{SheetRead}
 use Rattle.sheet_reader.specs.SheetFound.{SheetFound}
-use Rattle.comparison.specs.Frame.{start}
+use Rattle.sheets.specs.Sheet.{start}
 use Rattle.comparison.specs.Promise.{startsOf}
 use Rattle.call_seeds.specs.Choice.{ChoiceHeld, Seeds}
 
@@ -36,7 +36,7 @@ module _ (s : List ℕ) (left right : ℕ) (r : SheetRead) (found : SheetFound (
   -- it is held with both starts
   pub choice-held : ChoiceHeld (r .sheet) left right
   choice-held =
-      let chosen : ChoiceRead s left right (sheetOf (r .sheet)) end = choice-reads s left right (sheetOf (r .sheet)) end choice-is in
+      let chosen : ChoiceRead s left right (sheetOf (r .sheet)) end = choice-read s left right (sheetOf (r .sheet)) end choice-is in
       let well : Admissible (sheetOf (r .sheet)) = read-admissible s (sheetOf (r .sheet)) end (chosen .read) in
       let held = found .held n end a in
       record {
@@ -63,20 +63,21 @@ module _ (sheet : Sheet) (k : ℕ) (inside : k < sheet .«start_count») where
       (getD-in (sheetOf sheet .starts) k (record { store = 0; threads = [] }) (rw (starts-count sheet) inside)))
 
 -- ---- the seeds
--- the starts stored over the first two places
-pub seeds-stored : (starts : List Configuration) (left right : ℕ) (d : Configuration) → length starts ≡ 16 → left < 16 → right < 16
-    → Seeds starts left right (set (set starts 0 (getD starts left d)) 1 (getD starts right d))
-seeds-stored starts left right d long l r =
-    let p : Configuration = getD starts left d in
-    let q : Configuration = getD starts right d in
+-- the chosen starts stored over the first two places are the first two seeds
+pub seeds-stored : (starts seeds : List Configuration) (left right : ℕ) → 2 ≤ length seeds
+    → seeds ≡ set (set starts 0 (getD starts left noConfiguration)) 1 (getD starts right noConfiguration) → Seeds starts left right seeds
+seeds-stored starts seeds left right long e =
+    let p : Configuration = getD starts left noConfiguration in
+    let q : Configuration = getD starts right noConfiguration in
+    let same : length seeds ≡ length starts = ap length e ∙ length-set (set starts 0 p) 1 q ∙ length-set starts 0 p in
     record {
       first =
-          getD-set-other (set starts 0 p) 1 0 q noConfiguration (omega arith)
-          ∙ getD-set-same starts 0 p noConfiguration (omega arith)
-          ∙ getD-any starts left d noConfiguration (omega arith);
+          ap (λ (l : List Configuration). getD l 0 noConfiguration) e
+          ∙ getD-set-other (set starts 0 p) 1 0 q noConfiguration (omega arith)
+          ∙ getD-set-same starts 0 p noConfiguration (omega arith);
       second =
-          getD-set-same (set starts 0 p) 1 q noConfiguration (omega (arith, length-set starts 0 p))
-          ∙ getD-any starts right d noConfiguration (omega arith);
+          ap (λ (l : List Configuration). getD l 1 noConfiguration) e
+          ∙ getD-set-same (set starts 0 p) 1 q noConfiguration (omega (arith, length-set starts 0 p));
     }
 
 two-starts : (seeds : List Configuration)

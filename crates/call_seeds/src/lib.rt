@@ -6,11 +6,10 @@ use work_layout::MEMBER_ROOM;
 use work_layout::MOVE_ROOM;
 ghost use mathlib.Core.Path.{_≡_};
 ghost use Prim.Native.Nat.{_<_};
-ghost use lib.ListN.{getD};
+ghost use lib.ListN.{getD, set};
 ghost use Rattle.sheet_types.specs.HeldSheet.{noConfiguration};
 ghost use Rattle.comparison.specs.CallLimits.{limits};
 ghost use Rattle.found_set.specs.FoundSet.{limitsOf, CapsFit};
-ghost use Rattle.call_seeds.specs.Choice.{Seeds};
 
 // The start with this number.
 pub fn start_at(starts: [Configuration; 16], k: usize) -> Configuration
@@ -20,10 +19,10 @@ pub fn start_at(starts: [Configuration; 16], k: usize) -> Configuration
     starts[k]
 }
 
-// The chosen starts as the first two seeds.
+// The chosen starts as the first two seeds; the other starts stay.
 pub fn chosen_seeds(starts: [Configuration; 16], left: usize, right: usize) -> [Configuration; 16]
     requires { ⌜ (left < 16) × (right < 16) ⌝ }
-    ensures { λ r. ⌜ Seeds starts left right r ⌝ }
+    ensures { λ r. ⌜ r ≡ set (set starts 0 (getD starts left noConfiguration)) 1 (getD starts right noConfiguration) ⌝ }
 {
     let p = starts[left];
     let q = starts[right];

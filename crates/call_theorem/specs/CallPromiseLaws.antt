@@ -4,13 +4,12 @@ use mathlib.Core.List.{List, _++_}
 use Prim.Native.Nat.{ℕ}
 use native.Mathlib.Omega.{arith}
 use lib.ListN.{length, drop}
-use Rattle.sheets.specs.Sheet.{Sheet}
-use Rattle.sheets.specs.Reading.{got, readChoice}
+use Rattle.sheets.specs.Sheet.{Sheet, start}
 use Rattle.comparison.specs.CallLimits.{Limits, NoGreater, limits}
 use Rattle.comparison.specs.Report as spec
-use Rattle.comparison.specs.Report.{Verdict, SAME, DIFF, reportBytes, reportLength}
-use Rattle.comparison.specs.Frame.{reported, refusal, start, workRefused}
-use Rattle.comparison.specs.Call.{Compares, compareWith, compare, answerAfter}
+use Rattle.comparison.specs.Report.{Verdict, SAME, DIFF, reportBytes, reportLength, Compares}
+use Rattle.comparison.specs.Outcome.{reported, refusal, workRefused}
+use Rattle.comparison.specs.Call.{compareWith, compare, answerAfter}
 use Rattle.comparison.specs.Promise.{Refuses, Reports, Faithful}
 use Rattle.comparison_laws.specs.CallTheorem.{refuses-exactly, reports-exactly, call-faithful}
 use Rattle.answers.specs.declared.Reported.{Reported}
@@ -75,7 +74,7 @@ module _ (l : Limits) (small : NoGreater l limits) (bytes : List ℕ) (left righ
         reports = subst (Reports l bytes left right (length v) (length before)) (sym back) g;
         faithful =
             let f = call-faithful l bytes left right (length v) (length before) r g in
-            (f .0, f .1, f .2, subst (Faithful (f .0) (start (f .0) left) (start (f .0) right)) (sym back) (f .3));
+            (f .0, f .1, subst (Faithful (f .0) (start (f .0) left) (start (f .0) right)) (sym back) (f .2));
         long = long ∙ ap reportLength (sym back);
         written = c .bytes ∙ ap₂ (λ (q : spec.Report) (k : ℕ). reportBytes q ++ drop k before) (sym back) (sym long);
         work = c .works;

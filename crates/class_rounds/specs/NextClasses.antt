@@ -15,7 +15,7 @@ use Rattle.kept_classes.specs.ClassesPresent.{births-agree, births-more, presen
 use Rattle.class_splits.specs.ClassedPlaces.{chosenIn}
 use Rattle.class_splits.specs.LineTests.{linesHeld}
 use Rattle.class_rounds.specs.RoundAtHand.{TogetherHeld, PresentHeld, Stage, stage-count, stage-next}
-use Rattle.class_rounds.specs.SplitRounds.{Splitting}
+use Rattle.round_steps.specs.SplitRounds.{Splitting}
 use Rattle.work_layout.specs.ClassLayout.{classIn, bornIn, fromIn}
 
 module _ {sheet : Sheet} {set : List Configuration} {v : List ℕ} {n m r old : ℕ} (S : Stage sheet set v n m r old)

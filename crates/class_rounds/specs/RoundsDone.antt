@@ -41,12 +41,12 @@ use Rattle.round_lines.specs.WatchingMembers.{MoveWatched}
 use Rattle.round_lines.specs.SetLinesFound.{MemberLined, LinesKept, InList, SetLined}
 use Rattle.dominators.specs.ForgottenMoves.{Forgotten, forgotten-held}
 use Rattle.class_splits.specs.ClassedPlaces.{chosenIn, Classed, classed-count, classed-same}
-use Rattle.class_rounds.specs.FirstRound.{storeIn, StoresRise, Founding}
+use Rattle.round_steps.specs.FirstRound.{storeIn, StoresRise, Founding}
 use Rattle.class_rounds.specs.RoundAtHand.{nobody, TogetherHeld, PresentHeld, SetReady, present-listed, present-round, Stage}
 use Rattle.class_splits.specs.LineTests.{linesHeld}
-use Rattle.class_rounds.specs.ChosenMembers.{Rechosen, rechosen-class, rechosen-classed}
-use Rattle.class_rounds.specs.AwakeMembers.{ListFits, NextListed}
-use Rattle.class_rounds.specs.SplitRounds.{Splitting, splitting-all}
+use Rattle.round_steps.specs.ChosenMembers.{Rechosen, rechosen-class, rechosen-classed}
+use Rattle.round_steps.specs.AwakeMembers.{ListFits, NextListed}
+use Rattle.round_steps.specs.SplitRounds.{Splitting, splitting-all}
 use Rattle.class_rounds.specs.NextClasses.{next-together, next-present}
 use Rattle.work_layout.specs.WorkLayout.{workEnd, spansAt, movesAt, dominatorsAt, lineTotalsAt, classesAt, birthsAt, chosenAt, linesAt}
 use Rattle.work_layout.specs.ClassLayout.{classIn, classesIn, bornIn, fromIn}

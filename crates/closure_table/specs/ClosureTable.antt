@@ -23,6 +23,14 @@ pub closure-at : (rs : List Rule) (n : ℕ) (table : List ℕ) (s : ℕ) → Clo
     → 2 ^ n ≤ 65536 → getD table s 0 % 65536 ≡ closure rs s
 closure-at rs n table s h l c b = let e : getD table s 0 ≡ closure rs s = h .at s (omega arith) l in omega (arith, closure-lt rs n s l c)
 
+-- what is read at a set's place; in a table of closures it is the set's closure
+pub record ReadClosure (table : List ℕ) (s r : ℕ) : Type 0 where
+  pub entry : r ≡ getD table s 0 % 65536
+  pub closed : (rs : List Rule) (n : ℕ) → Closures rs 0 (2 ^ n) table → s < 2 ^ n → conclusions rs < 2 ^ n → 2 ^ n ≤ 65536 → r ≡ closure rs s
+
+pub entry-read : (table : List ℕ) (s r : ℕ) → r ≡ getD table s 0 % 65536 → ReadClosure table s r
+entry-read table s r e = record { entry = e; closed = λ rs n h l c b. e ∙ closure-at rs n table s h l c b }
+
 -- tables that agree below the size have the same closures
 pub closures-agree : {rs : List Rule} {k size : ℕ} {table other : List ℕ} → Closures rs k size table
     → ((s : ℕ) → s < size → getD other s 0 ≡ getD table s 0) → Closures rs k size other

@@ -1,4 +1,2 @@
 pub mod ClosureTable
 pub mod FillLaws
-pub mod GatheredConclusions
-pub mod GatheredLaws

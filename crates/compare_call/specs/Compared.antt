@@ -2,8 +2,9 @@
 use mathlib.Core.Path.{_≡_}
 use mathlib.Core.List.{List}
 use Prim.Native.Nat.{ℕ}
-use Rattle.comparison.specs.Frame.{workAfter}
-use Rattle.comparison.specs.Call.{Compares, answerAfter}
+use Rattle.comparison.specs.Outcome.{workAfter}
+use Rattle.comparison.specs.Report.{Compares}
+use Rattle.comparison.specs.Call.{answerAfter}
 use Rattle.answers.specs.declared.Answer.{Answer}
 use Rattle.answers.specs.Returned.{returned}
 

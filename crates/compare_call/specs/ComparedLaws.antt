@@ -13,9 +13,10 @@ use Rattle.sheet_types.specs.declared.Configuration.{Configuration}
 use Rattle.sheet_types.specs.HeldSheet.{configuration}
 use Rattle.comparison.specs.CallLimits.{Limits, workLength}
 use Rattle.comparison.specs.Set.{explored}
-use Rattle.comparison.specs.Report.{Report, reportOn, reportLength}
-use Rattle.comparison.specs.Frame.{reported, refusal, start, cleared, workAfter}
-use Rattle.comparison.specs.Call.{Compares, inRoom, compareWith, answerAfter}
+use Rattle.comparison.specs.Report.{Report, reportOn, reportLength, Compares}
+use Rattle.comparison.specs.Outcome.{reported, refusal, cleared, workAfter}
+use Rattle.sheets.specs.Sheet.{start}
+use Rattle.comparison.specs.Call.{inRoom, compareWith, answerAfter}
 use Rattle.comparison.specs.Promise.{startsOf}
 use Rattle.comparison_laws.specs.SetLaws.{fits-not-over, explored-closed, explored-ascends, explored-seeds}
 use Rattle.work_layout.specs.WorkLayout.{workEnd}

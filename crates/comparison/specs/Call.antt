@@ -5,15 +5,12 @@ use mathlib.Core.List.{List, [], _∷_}
 use Prim.Native.Nat.{ℕ}
 use lib.Dec.{ltb}
 use Rattle.sheets.specs.Refusals.{shortAnswer}
-use Rattle.sheets.specs.Sheet.{Configuration, Sheet}
-use Rattle.sheets.specs.Reading.{Reading, readChoice}
+use Rattle.sheets.specs.Sheet.{Configuration, Sheet, start}
+use Rattle.sheet_reading.specs.Reading.{Reading, readChoice}
 use Rattle.comparison.specs.CallLimits.{Limits, limits}
-use Rattle.comparison.specs.Report.{Report, reportOn, reportBytes, reportLength}
-use Rattle.comparison.specs.Frame.{Outcome, reported, refusal, start, withSet, withWork, withSheet, writtenAfter}
-
--- a report, or a refusal
-abbrev pub Compares : Type 0
-Compares = Outcome Report
+use Rattle.comparison.specs.Report.{Report, Compares, reportOn, reportBytes, reportLength}
+use Rattle.comparison.specs.Outcome.{Outcome, reported, refusal, writtenAfter}
+use Rattle.comparison.specs.Frame.{withSet, withWork, withSheet}
 
 -- 22: the answer slice is shorter than the report; the place is the length needed
 abbrev pub inRoom : ℕ → Report → Compares

@@ -9,16 +9,16 @@ use lib.Dec.{T, eqb}
 use Rattle.lists.specs.Lists.{select, all, concatMap, sameNumbers}
 use Rattle.stores.specs.Stores.{closure, passes, pass, conclusions}
 use Rattle.sheets.specs.Sheet.{Configuration, Sheet, openWithin}
-use Rattle.sheets.specs.Reading.{recordsFrom, countAt, setAt, nameBytes, nameAt, namesFrom, factsAt, premiseAt, ruleAt, rulesAt, kindAt, firstAt, secondAt, nodeAt, nodesAt, threadAt, threadsFrom, startAt, startsAt, readSheet, readChoice}
+use Rattle.sheet_reading.specs.Reading.{recordsFrom, countAt, setAt, nameBytes, nameAt, namesFrom, factsAt, premiseAt, ruleAt, rulesAt, kindAt, firstAt, secondAt, nodeAt, nodesAt, threadAt, threadsFrom, startAt, startsAt, readSheet, readChoice}
 use Rattle.moves.specs.Moves.{labels, stepsWithin, moves}
 use Rattle.comparison.specs.CallLimits.{limits, workLength, noReply, reportRoom}
 use Rattle.comparison.specs.Classes.{placeOf, numberedFrom}
 use Rattle.comparison.specs.Set.{exploredFrom, explored}
 use Rattle.comparison.specs.Rounds.{refined, classes, roundsFrom, rounds}
 use Rattle.comparison.specs.Trail.{TrailStep, trailFrom}
-use Rattle.comparison.specs.Report.{Verdict, SAME, DIFF, sideByte, replyNumber, reportOn, reportBytes}
-use Rattle.comparison.specs.Frame.{reported, refusal, workAfter}
-use Rattle.comparison.specs.Call.{Compares, compareWith, compare, answerAfter}
+use Rattle.comparison.specs.Report.{Verdict, SAME, DIFF, sideByte, replyNumber, reportOn, reportBytes, Compares}
+use Rattle.comparison.specs.Outcome.{reported, refusal, workAfter}
+use Rattle.comparison.specs.Call.{compareWith, compare, answerAfter}
 use Rattle.comparison.specs.Print.{printed}
 use Rattle.printed_lines.specs.Decimal.{decimal, decimalWithin}
 use Rattle.comparison.specs.KnownSheets.{bytesOfK, bytesOfGrowing, bytesOfReplies, bytesOfTies, bytesOfWide, bytesOfPaper, bytesOfFacts, bytesOfThreads, bytesOfTwoMore, sheetK, sheetL}

@@ -6,7 +6,7 @@ use lib.ListN.{length}
 use Rattle.lists.specs.Lists.{concatMap}
 use Rattle.stores.specs.Stores.{Rule, closure, passes, pass, conclusions}
 use Rattle.sheets.specs.Sheet.{stop, tell, ask, both, either, Sheet, openWithin}
-use Rattle.sheets.specs.Reading.{got, recordsFrom, countAt, setAt, nameBytes, nameAt, namesFrom, factsAt, premiseAt, ruleAt, rulesAt, kindAt, firstAt, secondAt, nodeAt, nodesAt, threadAt, threadsFrom, startAt, startsAt, readSheet}
+use Rattle.sheet_reading.specs.Reading.{got, recordsFrom, countAt, setAt, nameBytes, nameAt, namesFrom, factsAt, premiseAt, ruleAt, rulesAt, kindAt, firstAt, secondAt, nodeAt, nodesAt, threadAt, threadsFrom, startAt, startsAt, readSheet}
 
 -- ---- records as bytes
 -- two bytes, the low one first

@@ -1,4 +1,5 @@
 pub mod CallLimits
+pub mod Outcome
 pub mod Set
 pub mod Classes
 pub mod Rounds
@@ -9,5 +10,6 @@ pub mod Call
 pub mod Print
 pub mod SheetTransitions
 pub mod Promise
+pub mod TrailSentences
 pub mod KnownSheets
 pub mod KnownCases

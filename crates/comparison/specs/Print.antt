@@ -9,9 +9,8 @@ use Rattle.printed_lines.specs.Lines.{space, lineFeed, field, line, refusedWord
 use Rattle.sheets.specs.Sheet.{Configuration}
 use Rattle.comparison.specs.Classes.{placeOf, classOf}
 use Rattle.comparison.specs.Trail.{Side, left, right, Reply, none, move, TrailStep}
-use Rattle.comparison.specs.Report.{Verdict, SAME, DIFF}
-use Rattle.comparison.specs.Frame.{reported, refusal}
-use Rattle.comparison.specs.Call.{Compares}
+use Rattle.comparison.specs.Report.{Verdict, SAME, DIFF, Compares}
+use Rattle.comparison.specs.Outcome.{reported, refusal}
 
 -- SAME or DIFF
 abbrev pub verdictWord : Verdict → List ℕ

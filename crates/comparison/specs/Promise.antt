@@ -9,9 +9,9 @@ use Prim.Native.Nat.{ℕ, suc, _≤_, _<_}
 use lib.ListN.{length, getD}
 use Rattle.lists.specs.Lists.{Ascends, MoreThan}
 use Rattle.sheets.specs.Refusals.{largeSet, shortAnswer, shortWork}
-use Rattle.sheets.specs.Sheet.{Configuration, Sheet}
-use Rattle.sheets.specs.Reading.{got, refused, readChoice}
-use Rattle.moves.specs.Orders.{Move, configurationBefore}
+use Rattle.sheets.specs.Sheet.{Configuration, Sheet, start}
+use Rattle.sheets.specs.SheetBytes.{ChoiceIs, ChoiceRefused}
+use Rattle.moves.specs.Orders.{Move, configurationBefore, moveBefore}
 use Rattle.moves.specs.Moves.{moves, Moves}
 use Rattle.comparison.specs.CallLimits.{Limits, workLength}
 use Rattle.comparison.specs.Set.{explored}
@@ -19,7 +19,6 @@ use Rattle.comparison.specs.Classes.{share}
 use Rattle.comparison.specs.Trail as trail
 use Rattle.comparison.specs.Trail.{TrailStep}
 use Rattle.comparison.specs.Report.{SAME, DIFF, Report, reportOn, reportLength}
-use Rattle.comparison.specs.Frame.{start}
 use Rattle.refinement.specs.Refinement.{Member, Redundant, Round, Level, TellsApart, Bisimilar, FirstApart}
 use Rattle.comparison.specs.SheetTransitions.{transitions}
 
@@ -38,23 +37,31 @@ pub record NumberedByFirst (classes : List ℕ) : Type 0 where
       ⊎ (((j : ℕ) → j < i → getD classes j 0 ≡ getD classes i 0 → ⊥)
       × ((c : ℕ) → c < getD classes i 0 → (j : ℕ) × (j < i) × (getD classes j 0 ≡ c)))
 
--- A move of p that tells it from q, the two being first separated in the round after r: it is irredundant in round r, and no
--- move of q with its label leads into the class of round r of its target.
-pub record Telling (sheet : Sheet) (r : ℕ) (p q : Configuration) (a : ℕ) (t : Configuration) : Type 0 where
+-- A move of p tells it from q, the two being first separated in the round after r: it is irredundant in round r, and no move of q
+-- with its label leads into the class of round r of its target.
+pub record Tells (sheet : Sheet) (r : ℕ) (p q : Configuration) (a : ℕ) (t : Configuration) : Type 0 where
   pub move : Moves sheet p a t
   pub irredundant : Redundant (transitions sheet) (Round (transitions sheet) r) p a t → ⊥
   pub unanswered : (u : Configuration) → Moves sheet q a u → Round (transitions sheet) r t u → ⊥
 
+-- The move that is taken: the first that tells, in the order of moves.
+pub record Telling (sheet : Sheet) (r : ℕ) (p q : Configuration) (a : ℕ) (t : Configuration) : Type 0 where
+  pub tells : Tells sheet r p q a t
+  pub first : (b : ℕ) (u : Configuration) → Tells sheet r p q b u
+      → moveBefore (record { label = b; target = u }) (record { label = a; target = t }) ≡ true → ⊥
+
 -- A reply to a move with label a into t: a move of q with that label, and none of them leads to a target that is separated
--- from t in a higher round; n is the round of the new pair.
+-- from t in a higher round, or to an earlier target that is separated in the same round; n is the round of the new pair.
 pub record Replied (sheet : Sheet) (q : Configuration) (a : ℕ) (t : Configuration) (k : Move) (n : ℕ) : Type 0 where
   pub label : k .label ≡ a
   pub move : List·Memᴰ k (moves sheet q)
   pub round : FirstApart (transitions sheet) (Round (transitions sheet)) n t (k .target)
   pub highest : (u : Configuration) (i : ℕ) → Moves sheet q a u → FirstApart (transitions sheet) (Round (transitions sheet)) i t u → i ≤ n
+  pub earliest : (u : Configuration) → Moves sheet q a u → FirstApart (transitions sheet) (Round (transitions sheet)) n t u
+      → configurationBefore u (k .target) ≡ true → ⊥
 
 -- A trail that a person can walk with the sheet in hand, from a left and a right configuration that are first separated in
--- round n: each step is a move that tells the mover from the other, its reply leads to a pair of a lower round, and the trail
+-- round n: each step is the first move that tells the mover from the other, its reply leads to a pair of a lower round, and the trail
 -- ends at unequal stores or where there is no reply. Sides are kept; the right moves only where no move of the left tells.
 pub data Walkable (sheet : Sheet) : ℕ → Configuration → Configuration → List TrailStep → Type 0 where
   unequal-stores : {p q : Configuration} → FirstApart (transitions sheet) (Round (transitions sheet)) 0 p q → Walkable sheet 0 p q []
@@ -66,12 +73,12 @@ pub data Walkable (sheet : Sheet) : ℕ → Configuration → Configuration → 
       → Telling sheet r p q a t → Replied sheet q a t k n → n ≤ r → Walkable sheet n t (k .target) steps
       → Walkable sheet (suc r) p q (record { side = trail.left; label = a; target = t; reply = trail.move k } ∷ steps)
   right-alone : {r a : ℕ} {p q t : Configuration} → FirstApart (transitions sheet) (Round (transitions sheet)) (suc r) p q
-      → ((b : ℕ) (u : Configuration) → Telling sheet r p q b u → ⊥)
+      → ((b : ℕ) (u : Configuration) → Tells sheet r p q b u → ⊥)
       → Telling sheet r q p a t → ((u : Configuration) → Moves sheet p a u → ⊥)
       → Walkable sheet (suc r) p q (record { side = trail.right; label = a; target = t; reply = trail.none } ∷ [])
   right-replied : {r n a : ℕ} {p q t : Configuration} {k : Move} {steps : List TrailStep}
       → FirstApart (transitions sheet) (Round (transitions sheet)) (suc r) p q
-      → ((b : ℕ) (u : Configuration) → Telling sheet r p q b u → ⊥)
+      → ((b : ℕ) (u : Configuration) → Tells sheet r p q b u → ⊥)
       → Telling sheet r q p a t → Replied sheet p a t k n → n ≤ r → Walkable sheet n (k .target) t steps
       → Walkable sheet (suc r) p q (record { side = trail.right; label = a; target = t; reply = trail.move k } ∷ steps)
 
@@ -128,22 +135,21 @@ startsOf sheet left right = start sheet left ∷ start sheet right ∷ []
 -- When the call refuses, and how.
 pub data Refuses (l : Limits) (bytes : List ℕ) (left right work answer : ℕ) : ℕ → ℕ → Type 0 where
   -- by the sheet or the choice, handed up unaltered
-  by-sheet : {number place : ℕ} → readChoice bytes left right ≡ refused number place → Refuses l bytes left right work answer number place
+  by-sheet : {number place : ℕ} → ChoiceRefused bytes left right number place → Refuses l bytes left right work answer number place
   -- 23: the work slice is too short
-  short-work : (sheet : Sheet) (end : ℕ) → readChoice bytes left right ≡ got sheet end → work < workLength → Refuses l bytes left right work answer shortWork 0
+  short-work : (sheet : Sheet) → ChoiceIs bytes left right sheet → work < workLength → Refuses l bytes left right work answer shortWork 0
   -- 21: the set itself passes a limit
-  large-set : (sheet : Sheet) (end : ℕ) → readChoice bytes left right ≡ got sheet end → workLength ≤ work
-      → PassesLimit sheet l (startsOf sheet left right) → Refuses l bytes left right work answer largeSet 0
+  large-set : (sheet : Sheet) → ChoiceIs bytes left right sheet → workLength ≤ work → PassesLimit sheet l (startsOf sheet left right)
+      → Refuses l bytes left right work answer largeSet 0
   -- 22: the answer slice is shorter than the report, at the length needed
-  short-answer : (sheet : Sheet) (end : ℕ) → readChoice bytes left right ≡ got sheet end → workLength ≤ work
-      → (PassesLimit sheet l (startsOf sheet left right) → ⊥) → answer < reportLength (reportFor l sheet left right)
+  short-answer : (sheet : Sheet) → ChoiceIs bytes left right sheet → workLength ≤ work → (PassesLimit sheet l (startsOf sheet left right) → ⊥)
+      → answer < reportLength (reportFor l sheet left right)
       → Refuses l bytes left right work answer shortAnswer (reportLength (reportFor l sheet left right))
 
 -- When the call reports, and what.
 pub record Reports (l : Limits) (bytes : List ℕ) (left right work answer : ℕ) (r : Report) : Type 0 where
   pub sheet : Sheet
-  pub end : ℕ
-  pub read : readChoice bytes left right ≡ got sheet end
+  pub chosen : ChoiceIs bytes left right sheet
   pub work-room : workLength ≤ work
   pub no-limit : PassesLimit sheet l (startsOf sheet left right) → ⊥
   pub answer-room : reportLength r ≤ answer

@@ -6,6 +6,8 @@ use lib.ListN.{length, getD}
 use lib.Dec.{eqb}
 use Rattle.lists.specs.Lists.{concatMap}
 use Rattle.sheets.specs.Sheet.{Configuration, Sheet}
+use Rattle.sheets.specs.SheetBytes.{wordBytes}
+use Rattle.comparison.specs.Outcome.{Outcome}
 use Rattle.comparison.specs.CallLimits.{noReply}
 use Rattle.comparison.specs.Classes.{placeOf, classOf}
 use Rattle.comparison.specs.Rounds.{rounds, resultOf, apartIn}
@@ -14,10 +16,6 @@ use Rattle.comparison.specs.Trail.{Side, left, right, Reply, none, move,
 pub data Verdict : Type 0 where
   SAME : Verdict
   DIFF : Verdict
-
--- two bytes, the low one first
-abbrev pub wordBytes : ℕ → List ℕ
-wordBytes n = n % 256 ∷ n / 256 % 256 ∷ []
 
 -- a member: store, thread count, threads, class
 abbrev pub memberBytes : Configuration → ℕ → List ℕ
@@ -80,3 +78,7 @@ reportBytes r =
 -- the report's length in bytes
 abbrev pub reportLength : Report → ℕ
 reportLength r = length (reportBytes r)
+
+-- a report, or a refusal
+abbrev pub Compares : Type 0
+Compares = Outcome Report

@@ -5,19 +5,22 @@ use mathlib.Core.Bool.{Bool, true, false, cond}
 use mathlib.Core.List.{List, [], List·Memᴰ·head}
 use Prim.Native.Nat.{ℕ, _≤_, _<_}
 use native.Mathlib.Omega.{arith}
+use lib.ListN.{length}
 use lib.Dec.{ltb}
 use borrow.Author.Tests.{ltb-true, ltb-false, lt-ltb, le-ltb}
 use Rattle.list_laws.specs.TestLaws.{true-false, Tested, tested, passes, fails}
 use Rattle.list_laws.specs.ListPlaces.{getD-in}
-use Rattle.sheets.specs.Sheet.{Configuration, Sheet}
+use Rattle.sheets.specs.Sheet.{Configuration, Sheet, start}
 use Rattle.sheets.specs.WellFormed.{WellFormed, Admissible}
-use Rattle.sheets.specs.Reading.{Reading, got, refused, readChoice}
-use Rattle.sheet_laws.specs.ReadingLaws.{choice-reads, read-admissible}
+use Rattle.sheet_reading.specs.Reading.{Reading, got, refused, readChoice}
+use Rattle.sheets.specs.SheetBytes.{ChoiceIs}
+use Rattle.sheet_reading.specs.SheetRead.{choice-reads}
+use Rattle.sheet_laws.specs.ReadingLaws.{written-admissible}
 use Rattle.comparison.specs.CallLimits.{Limits, workLength, reportRoom}
 use Rattle.comparison.specs.Set.{explored, fits}
-use Rattle.comparison.specs.Report.{Report, reportLength}
-use Rattle.comparison.specs.Frame.{reported, refusal, start}
-use Rattle.comparison.specs.Call.{Compares, inRoom, compareStarts, compareSheet, afterReading, compareWith}
+use Rattle.comparison.specs.Report.{Report, reportLength, Compares}
+use Rattle.comparison.specs.Outcome.{reported, refusal}
+use Rattle.comparison.specs.Call.{inRoom, compareStarts, compareSheet, afterReading, compareWith}
 use Rattle.comparison_laws.specs.SetLaws.{fits-exactly, fits-not-over, explored-closed, explored-seeds}
 use Rattle.comparison_laws.specs.ResultLaws.{result-is, rounds-of}
 use Rattle.comparison_laws.specs.ReportLaws.{report-room-within}
@@ -58,55 +61,53 @@ module _ (l : Limits) (bytes : List ℕ) (left right work answer : ℕ) where
   unfolding compareWith
   call-gives = reading (readChoice bytes left right) refl
     where
-      room : (sheet : Sheet) (end : ℕ) → readChoice bytes left right ≡ got sheet end → workLength ≤ work
+      room : (sheet : Sheet) → ChoiceIs bytes left right sheet → workLength ≤ work
           → (PassesLimit sheet l (startsOf sheet left right) → ⊥)
           → (b : Bool) → ltb answer (reportLength (reportFor l sheet left right)) ≡ b
           → Gives l bytes left right work answer
           (cond b (refusal 22 (reportLength (reportFor l sheet left right))) (reported (reportFor l sheet left right)))
-      room sheet end e w n true h = gives-refusal (short-answer sheet end e w n (ltb-true answer (reportLength (reportFor l sheet left right)) h))
-      room sheet end e w n false h =
+      room sheet e w n true h = gives-refusal (short-answer sheet e w n (ltb-true answer (reportLength (reportFor l sheet left right)) h))
+      room sheet e w n false h =
           gives-report (record {
             sheet = sheet;
-            end = end;
-            read = e;
+            chosen = e;
             work-room = w;
             no-limit = n;
             answer-room = ltb-false answer (reportLength (reportFor l sheet left right)) h;
             report = refl;
           })
 
-      size : (sheet : Sheet) (end : ℕ) → readChoice bytes left right ≡ got sheet end → workLength ≤ work
+      size : (sheet : Sheet) → ChoiceIs bytes left right sheet → workLength ≤ work
           → (b : Bool) → fits sheet l (explored sheet l (startsOf sheet left right)) ≡ b
           → Gives l bytes left right work answer (elim b [ true ↦ inRoom answer (reportFor l sheet left right) | false ↦ refusal 21 0 ])
-      size sheet end e w true h =
-          room sheet end e w (not-passed sheet h) (ltb answer (reportLength (reportFor l sheet left right))) refl
-      size sheet end e w false h = gives-refusal (large-set sheet end e w (fits-exactly sheet l (startsOf sheet left right) .0 h))
+      size sheet e w true h =
+          room sheet e w (not-passed sheet h) (ltb answer (reportLength (reportFor l sheet left right))) refl
+      size sheet e w false h = gives-refusal (large-set sheet e w (fits-exactly sheet l (startsOf sheet left right) .0 h))
 
-      slice : (sheet : Sheet) (end : ℕ) → readChoice bytes left right ≡ got sheet end → (b : Bool) → ltb work workLength ≡ b
+      slice : (sheet : Sheet) → ChoiceIs bytes left right sheet → (b : Bool) → ltb work workLength ≡ b
           → Gives l bytes left right work answer
           (elim b [ true ↦ refusal 23 0 | false ↦ compareStarts l sheet (start sheet left) (start sheet right) answer ])
-      slice sheet end e true h = gives-refusal (short-work sheet end e (ltb-true work workLength h))
-      slice sheet end e false h =
-          size sheet end e (ltb-false work workLength h) (fits sheet l (explored sheet l (startsOf sheet left right))) refl
+      slice sheet e true h = gives-refusal (short-work sheet e (ltb-true work workLength h))
+      slice sheet e false h =
+          size sheet e (ltb-false work workLength h) (fits sheet l (explored sheet l (startsOf sheet left right))) refl
 
       reading : (r : Reading Sheet) → readChoice bytes left right ≡ r → Gives l bytes left right work answer (afterReading l left right work answer r)
-      reading (refused number place) e = gives-refusal (by-sheet e)
-      reading (got sheet end) e = slice sheet end e (ltb work workLength) refl
+      reading (refused number place) e = gives-refusal (by-sheet (choice-reads bytes left right .sound .refused-is number place e))
+      reading (got sheet end) e = slice sheet (choice-reads bytes left right .sound .got-is sheet end e .0) (ltb work workLength) refl
 
   -- Demand 3 for the call: what is reported is faithful.
   pub call-faithful : (r : Report) → Reports l bytes left right work answer r
-      → (sheet : Sheet) × (end : ℕ) × (readChoice bytes left right ≡ got sheet end) × Faithful sheet (start sheet left) (start sheet right) r
+      → (sheet : Sheet) × ChoiceIs bytes left right sheet × Faithful sheet (start sheet left) (start sheet right) r
   call-faithful r g =
       let sheet : Sheet = g .sheet in
-      let c = choice-reads bytes left right sheet (g .end) (g .read) in
-      let fine : Admissible sheet = read-admissible bytes sheet (g .end) (c .read) in (
+      let c = g .chosen in
+      let fine : Admissible sheet = written-admissible bytes sheet (c .written) in (
         sheet,
-        g .end,
-        g .read,
+        c,
         subst (λ (x : Report). Faithful sheet (start sheet left) (start sheet right) x) (sym (g .report))
             (report-faithful sheet (fine .well-formed) l (start sheet left) (start sheet right)
-            (fine .starts-fit (start sheet left) (getD-in (sheet .starts) left (record { store = 0; threads = [] }) (c .left-start)))
-            (fine .starts-fit (start sheet right) (getD-in (sheet .starts) right (record { store = 0; threads = [] }) (c .right-start)))
+            (fine .starts-fit (start sheet left) (getD-in (sheet .starts) left (record { store = 0; threads = [] }) (c .left-there)))
+            (fine .starts-fit (start sheet right) (getD-in (sheet .starts) right (record { store = 0; threads = [] }) (c .right-there)))
             (fit-of sheet (g .no-limit))),
       )
 
@@ -114,41 +115,41 @@ module _ (l : Limits) (bytes : List ℕ) (left right work answer : ℕ) where
   abbrev called : Compares
   called = compareWith l bytes left right work answer
 
-  read-call : (sheet : Sheet) (end : ℕ) → readChoice bytes left right ≡ got sheet end
+  read-call : (sheet : Sheet) → ChoiceIs bytes left right sheet
       → called ≡ compareSheet l sheet (start sheet left) (start sheet right) work answer
   unfolding compareWith
-  read-call sheet end e = ap (afterReading l left right work answer) e
+  read-call sheet e = ap (afterReading l left right work answer) (choice-reads bytes left right .is-got sheet (length bytes) (e, refl))
 
-  work-call : (sheet : Sheet) (end : ℕ) → readChoice bytes left right ≡ got sheet end → workLength ≤ work
+  work-call : (sheet : Sheet) → ChoiceIs bytes left right sheet → workLength ≤ work
       → called ≡ compareStarts l sheet (start sheet left) (start sheet right) answer
-  work-call sheet end e w =
-      read-call sheet end e
+  work-call sheet e w =
+      read-call sheet e
       ∙ ap (λ (b : Bool). elim b as (λ _. Compares) [ true ↦ refusal 23 0 | false ↦ compareStarts l sheet (start sheet left) (start sheet right) answer ]) (le-ltb work workLength w)
 
-  fit-call : (sheet : Sheet) (end : ℕ) → readChoice bytes left right ≡ got sheet end → workLength ≤ work
+  fit-call : (sheet : Sheet) → ChoiceIs bytes left right sheet → workLength ≤ work
       → (PassesLimit sheet l (startsOf sheet left right) → ⊥) → called ≡ inRoom answer (reportFor l sheet left right)
-  fit-call sheet end e w n =
-      work-call sheet end e w
+  fit-call sheet e w n =
+      work-call sheet e w
       ∙ ap (λ (b : Bool). elim b as (λ _. Compares) [ true ↦ inRoom answer (reportFor l sheet left right) | false ↦ refusal 21 0 ]) (fit-of sheet n)
 
   refuses-call : {number place : ℕ} → Refuses l bytes left right work answer number place → called ≡ refusal number place
   unfolding compareWith
-  refuses-call (by-sheet e) = ap (afterReading l left right work answer) e
-  refuses-call (short-work sheet end e w) =
-      read-call sheet end e
+  refuses-call {number} {place} (by-sheet e) = ap (afterReading l left right work answer) (choice-reads bytes left right .is-refused number place e)
+  refuses-call (short-work sheet e w) =
+      read-call sheet e
       ∙ ap (λ (b : Bool). elim b as (λ _. Compares) [ true ↦ refusal 23 0 | false ↦ compareStarts l sheet (start sheet left) (start sheet right) answer ]) (lt-ltb work workLength w)
-  refuses-call (large-set sheet end e w x) =
-      work-call sheet end e w
+  refuses-call (large-set sheet e w x) =
+      work-call sheet e w
       ∙ ap (λ (b : Bool). elim b as (λ _. Compares) [ true ↦ inRoom answer (reportFor l sheet left right) | false ↦ refusal 21 0 ])
       (fits-exactly sheet l (startsOf sheet left right) .1 x)
-  refuses-call (short-answer sheet end e w n h) =
-      fit-call sheet end e w n
+  refuses-call (short-answer sheet e w n h) =
+      fit-call sheet e w n
       ∙ ap (λ (b : Bool). cond b (refusal 22 (reportLength (reportFor l sheet left right))) (reported (reportFor l sheet left right)))
       (lt-ltb answer (reportLength (reportFor l sheet left right)) h)
 
   reports-call : {r : Report} → Reports l bytes left right work answer r → called ≡ reported r
   reports-call {r} g =
-      fit-call (g .sheet) (g .end) (g .read) (g .work-room) (g .no-limit)
+      fit-call (g .sheet) (g .chosen) (g .work-room) (g .no-limit)
       ∙ ap (λ (b : Bool). cond b (refusal 22 (reportLength (reportFor l (g .sheet) left right))) (reported (reportFor l (g .sheet) left right)))
       (le-ltb answer (reportLength (reportFor l (g .sheet) left right)) (subst (λ (x : Report). reportLength x ≤ answer) (g .report) (g .answer-room)))
       ∙ ap reported (sym (g .report))
@@ -171,14 +172,12 @@ pub room-suffices : (l : Limits) (bytes : List ℕ) (left right work answer : �
     → reportLength r ≤ reportRoom l
 room-suffices l bytes left right work answer r g =
     let sheet : Sheet = g .sheet in
-    let c = choice-reads bytes left right sheet (g .end) (g .read) in
     subst (λ (x : Report). reportLength x ≤ reportRoom l) (sym (g .report))
-    (starts-room sheet (read-admissible bytes sheet (g .end) (c .read) .well-formed) l left right (fit-of l bytes left right work answer sheet (g .no-limit)))
+    (starts-room sheet (written-admissible bytes sheet (g .chosen .written) .well-formed) l left right (fit-of l bytes left right work answer sheet (g .no-limit)))
 
 -- an answer slice with that room is never too short
 pub never-short : (l : Limits) (bytes : List ℕ) (left right work answer place : ℕ) → reportRoom l ≤ answer
-    → (sheet : Sheet) (end : ℕ) → readChoice bytes left right ≡ got sheet end → workLength ≤ work
+    → (sheet : Sheet) → ChoiceIs bytes left right sheet → workLength ≤ work
     → (PassesLimit sheet l (startsOf sheet left right) → ⊥) → answer < reportLength (reportFor l sheet left right) → ⊥
-never-short l bytes left right work answer place room sheet end e w n h =
-    let c = choice-reads bytes left right sheet end e in
-    omega (arith, starts-room sheet (read-admissible bytes sheet end (c .read) .well-formed) l left right (fit-of l bytes left right work answer sheet n))
+never-short l bytes left right work answer place room sheet e w n h =
+    omega (arith, starts-room sheet (written-admissible bytes sheet (e .written) .well-formed) l left right (fit-of l bytes left right work answer sheet n))

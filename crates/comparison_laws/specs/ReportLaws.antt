@@ -17,7 +17,8 @@ use Rattle.comparison.specs.Set.{over}
 use Rattle.comparison.specs.Classes.{classOf}
 use Rattle.comparison.specs.Rounds.{rounds}
 use Rattle.comparison.specs.Trail.{TrailStep}
-use Rattle.comparison.specs.Report.{wordBytes, memberBytes, membersBytes, stepBytes, Report, reportOn, reportBytes}
+use Rattle.sheets.specs.SheetBytes.{wordBytes}
+use Rattle.comparison.specs.Report.{memberBytes, membersBytes, stepBytes, Report, reportOn, reportBytes}
 use Rattle.comparison_laws.specs.TrailLaws.{trail-length}
 
 -- the bytes of the members, one after another

@@ -10,14 +10,17 @@ use lib.ListN.{length, getD}
 use lib.Dec.{eqb, ltb}
 use borrow.Author.Tests.{eqb-true, eqb-false, eq-eqb, ltb-true, ltb-false, not-false}
 use Rattle.list_laws.specs.TestLaws.{and-left, and-right, or-right, or-false, same-test, not-passes, not-back, Tested, tested, passes, fails}
-use Rattle.lists.specs.Lists.{select}
+use Rattle.lists.specs.Lists.{select, Ascends, then-rest}
 use Rattle.list_laws.specs.Members.{mem-select, select-mem, any-no}
+use Rattle.list_laws.specs.AscendingLaws.{ascends-head, ascends-tail, not-both, none-before-head, select-ascends}
+use Rattle.move_laws.specs.OrderLaws.{moveOrder}
 use Rattle.sheets.specs.Sheet.{Configuration, Sheet}
-use Rattle.moves.specs.Orders.{Move}
+use Rattle.moves.specs.Orders.{Move, moveBefore}
 use Rattle.moves.specs.Moves.{moves}
 use Rattle.comparison.specs.Classes.{classOf, share}
 use Rattle.comparison.specs.Rounds.{redundant, answers, apartIn, resultOf}
 use Rattle.comparison.specs.Trail.{Side, left, right, Reply, none, move, TrailStep, highest, highestOf, unanswered, replyTo, after, firstOf, trailFrom, trail}
+use Rattle.comparison_laws.specs.SetLaws.{moves-ascend}
 use Rattle.comparison_laws.specs.ClassLaws.{position-le, position-at, position-before, position-most, position-same}
 
 -- ---- the first round that has two apart
@@ -82,6 +85,50 @@ highest-most value best (m ∷ ms) {k} i =
         at false t e =
             let v : value (k .target) ≡ value (m .target) = cc in omega (arith, v, ltb-false (value (best .target)) (value (m .target)) t, first best)
 
+-- of the targets with the highest value it is the earliest, where moves are in their order
+pub highest-earliest : (value : Configuration → ℕ) (best : Move) (ms : List Move) → Ascends moveBefore (best ∷ ms) → {k : Move} → List·Memᴰ k (best ∷ ms)
+    → value (k .target) ≡ value (highest value best ms .target) → moveBefore k (highest value best ms) ≡ true → ⊥
+highest-earliest value best [] a {k} i = λ e h. none-before-head moveOrder a k i h
+highest-earliest value best (m ∷ ms) a {k} i =
+    go (ltb (value (best .target)) (value (m .target))) refl
+    (λ j. highest-earliest value m ms (ascends-tail moveOrder a) {k = k} j)
+    (λ c j. highest-earliest value best ms without {k = c} j)
+    (List·Memᴰ·cases-cons i)
+  where
+    without : Ascends moveBefore (best ∷ ms)
+    without = then-rest (λ y n. ascends-head moveOrder a y (List·Memᴰ·tail n)) (ascends-tail moveOrder (ascends-tail moveOrder a))
+
+    -- where m does not become the best, it is not earlier than what is taken with its value
+    passed : value (m .target) ≤ value (best .target)
+        → ((c : Move) → List·Memᴰ c (best ∷ ms) → value (c .target) ≡ value (highest value best ms .target) → moveBefore c (highest value best ms) ≡ true → ⊥)
+        → value (m .target) ≡ value (highest value best ms .target) → moveBefore m (highest value best ms) ≡ true → ⊥
+    passed l on e h =
+        ⊎-elim
+        (λ (q : highest value best ms ≡ best).
+        not-both moveOrder best m (ascends-head moveOrder a m (List·Memᴰ·head refl)) (subst (λ (x : Move). moveBefore m x ≡ true) q h))
+        (λ (n : List·Memᴰ (highest value best ms) ms).
+        on best (List·Memᴰ·head refl)
+        (omega (arith, l, e, highest-most value best ms {k = best} (List·Memᴰ·head refl)))
+        (ascends-head moveOrder without (highest value best ms) n))
+        (List·Memᴰ·cases-cons (highest-mem value best ms))
+
+    go : (b : Bool) → ltb (value (best .target)) (value (m .target)) ≡ b
+        → (List·Memᴰ k (m ∷ ms) → value (k .target) ≡ value (highest value m ms .target) → moveBefore k (highest value m ms) ≡ true → ⊥)
+        → ((c : Move) → List·Memᴰ c (best ∷ ms) → value (c .target) ≡ value (highest value best ms .target) → moveBefore c (highest value best ms) ≡ true → ⊥)
+        → (k ≡ best) ⊎ List·Memᴰ k (m ∷ ms)
+        → value (k .target) ≡ value (highest value (cond b m best) ms .target) → moveBefore k (highest value (cond b m best) ms) ≡ true → ⊥
+    go true t first later (inl q) e h =
+        let v : value (k .target) ≡ value (best .target) = cc in
+        omega (arith, v, e, ltb-true (value (best .target)) (value (m .target)) t, highest-most value m ms {k = m} (List·Memᴰ·head refl))
+    go true t first later (inr j) e h = first j e h
+    go false t first later (inl q) e h = later k (List·Memᴰ·head q) e h
+    go false t first later (inr j) e h =
+        ⊎-elim
+        (λ (q : k ≡ m).
+        let x : value (m .target) ≡ value (highest value best ms .target) = subst (λ (c : Move). value (c .target) ≡ value (highest value best ms .target)) q e in
+        passed (ltb-false (value (best .target)) (value (m .target)) t) later x (subst (λ (c : Move). moveBefore c (highest value best ms) ≡ true) q h))
+        (λ (n : List·Memᴰ k ms). later k (List·Memᴰ·tail n) e h) (List·Memᴰ·cases-cons j)
+
 module _ (sheet : Sheet) (set : List Configuration) (rs : List (List ℕ)) where
   -- a move that is taken is one of its member's, irredundant, and unanswered
   pub unanswered-mem : (classes : List ℕ) (p q : Configuration) {m : Move} → List·Memᴰ m (unanswered sheet set rs classes p q)
@@ -120,6 +167,23 @@ module _ (sheet : Sheet) (set : List Configuration) (rs : List (List ℕ)) where
           let f : highest (apartIn set rs (m .target)) x xs ≡ k = cc in
           subst (λ (y : Move). apartIn set rs (m .target) (c .target) ≤ apartIn set rs (m .target) (y .target)) f
           (highest-most (apartIn set rs (m .target)) x xs j)
+
+  -- nor to an earlier target that the same round separates
+  pub reply-earliest : (q : Configuration) (m k c : Move) → replyTo sheet set rs q m ≡ move k → List·Memᴰ c (moves sheet q) → c .label ≡ m .label
+      → apartIn set rs (m .target) (c .target) ≡ apartIn set rs (m .target) (k .target) → moveBefore c k ≡ true → ⊥
+  reply-earliest q m k c e i l =
+      go (select (λ k. eqb (k .label) (m .label)) (moves sheet q))
+      (select-mem (λ k. eqb (k .label) (m .label)) (moves sheet q) i (eq-eqb (c .label) (m .label) l))
+      (select-ascends moveOrder (λ k. eqb (k .label) (m .label)) (moves sheet q) (moves-ascend sheet q)) e
+    where
+      go : (ks : List Move) → List·Memᴰ c ks → Ascends moveBefore ks → highestOf (apartIn set rs (m .target)) ks ≡ move k
+          → apartIn set rs (m .target) (c .target) ≡ apartIn set rs (m .target) (k .target) → moveBefore c k ≡ true → ⊥
+      go [] j a e v h = List·Memᴰ·not-nil j
+      go (x ∷ xs) j a e v h =
+          let f : highest (apartIn set rs (m .target)) x xs ≡ k = cc in
+          highest-earliest (apartIn set rs (m .target)) x xs a j
+          (subst (λ (y : Move). apartIn set rs (m .target) (c .target) ≡ apartIn set rs (m .target) (y .target)) (sym f) v)
+          (subst (λ (y : Move). moveBefore c y ≡ true) (sym f) h)
 
   -- where there is no reply, the other has no move with the mover's label
   pub reply-none : (q : Configuration) (m c : Move) → replyTo sheet set rs q m ≡ none → List·Memᴰ c (moves sheet q) → c .label ≡ m .label → ⊥

@@ -10,19 +10,23 @@ use lib.Dec.{eqb, ltb}
 use borrow.Author.Tests.{eqb-true, eqb-false, eq-eqb, ltb-true, ltb-false}
 use Rattle.list_laws.specs.TestLaws.{true-false, and-left, and-right, and-intro, or-left, or-right, or-false, not-passes, Tested, tested, passes, fails}
 use Rattle.list_laws.specs.Members.{any-yes, any-no, all-of, select-mem}
+use Rattle.lists.specs.Lists.{Ascends}
+use Rattle.list_laws.specs.AscendingLaws.{none-before-head, select-ascends}
+use Rattle.move_laws.specs.OrderLaws.{moveOrder}
 use Rattle.sheets.specs.Sheet.{Configuration, Sheet}
 use Rattle.sheets.specs.WellFormed.{WellFormed}
-use Rattle.moves.specs.Orders.{Move}
+use Rattle.moves.specs.Orders.{Move, moveBefore}
 use Rattle.moves.specs.Moves.{moves, Moves}
 use Rattle.comparison.specs.Classes.{share}
 use Rattle.comparison.specs.Rounds.{redundant, answers, rounds, apartIn}
 use Rattle.comparison.specs.Trail.{left, right, Reply, none, move, TrailStep, unanswered, replyTo, after, firstOf, trailFrom}
 use Rattle.refinement.specs.Refinement.{Transitions, Answered, Round, FirstApart}
 use Rattle.comparison.specs.SheetTransitions.{transitions}
-use Rattle.comparison.specs.Promise.{Telling, Replied, Walkable, unequal-stores, left-alone, left-replied, right-alone, right-replied}
+use Rattle.comparison.specs.Promise.{Tells, Telling, Replied, Walkable, unequal-stores, left-alone, left-replied, right-alone, right-replied}
 use Rattle.comparison_laws.specs.RoundLaws.{ClosedList, labelled, Sharing, sharing, redundant-yes, redundant-test, answered-yes}
 use Rattle.comparison_laws.specs.ResultLaws.{rounds-at}
-use Rattle.comparison_laws.specs.TrailLaws.{apart-sym, apart-le, apart-at-most, apart-together, apart-at, unanswered-mem, reply-mem, reply-highest, reply-none, reply-apart}
+use Rattle.comparison_laws.specs.SetLaws.{moves-ascend}
+use Rattle.comparison_laws.specs.TrailLaws.{apart-sym, apart-le, apart-at-most, apart-together, apart-at, unanswered-mem, reply-mem, reply-highest, reply-earliest, reply-none, reply-apart}
 
 module _ (sheet : Sheet) (wf : WellFormed sheet) (set : List Configuration) (closed : ClosedList sheet set) (some : 1 ≤ length set) where
   abbrev T : Transitions
@@ -67,7 +71,7 @@ module _ (sheet : Sheet) (wf : WellFormed sheet) (set : List Configuration) (clo
     classes = getD rs r []
 
     -- a move that is irredundant and unanswered tells
-    unanswered-tells : {m : Move} → List·Memᴰ m (unanswered sheet set rs classes p q) → Telling sheet r p q (m .label) (m .target)
+    unanswered-tells : {m : Move} → List·Memᴰ m (unanswered sheet set rs classes p q) → Tells sheet r p q (m .label) (m .target)
     unanswered-tells {m} h =
         let x = unanswered-mem sheet set rs classes p q {m = m} h in
         record {
@@ -82,14 +86,13 @@ module _ (sheet : Sheet) (wf : WellFormed sheet) (set : List Configuration) (clo
               {a = labelled (m .label) u} i);
         }
 
-    -- and no other does
-    none-tells : unanswered sheet set rs classes p q ≡ [] → (b : ℕ) (u : Configuration) → Telling sheet r p q b u → ⊥
-    none-tells e b u t =
+    -- and a move that tells is among those
+    tells-listed : (b : ℕ) (u : Configuration) → Tells sheet r p q b u → List·Memᴰ (labelled b u) (unanswered sheet set rs classes p q)
+    tells-listed b u t =
         let m : Move = labelled b u in
-        List·Memᴰ·not-nil (subst (λ (ms : List Move). List·Memᴰ m ms) e
-        (select-mem (λ k. not (redundant sheet set classes p k) && not (answers sheet set classes q k)) (moves sheet p) {a = m} (t .move)
+        select-mem (λ k. not (redundant sheet set classes p k) && not (answers sheet set classes q k)) (moves sheet p) {a = m} (t .move)
         (and-intro (not-passes (first (tested (redundant sheet set classes p m))))
-        (not-passes (second (tested (answers sheet set classes q m)))))))
+        (not-passes (second (tested (answers sheet set classes q m)))))
       where
         first : Tested (redundant sheet set classes p (labelled b u)) → redundant sheet set classes p (labelled b u) ≡ false
         first (passes h) =
@@ -105,6 +108,22 @@ module _ (sheet : Sheet) (wf : WellFormed sheet) (set : List Configuration) (clo
             (sharing-at r l .to-round u (k .target) (closed .targets p (labelled b u) mp (t .move)) (closed .targets q k mq (x .1))
             (and-right (eqb (k .label) b) (share set classes u (k .target)) (x .2))))
         second (fails h) = h
+
+    -- so none does where there are none
+    none-tells : unanswered sheet set rs classes p q ≡ [] → (b : ℕ) (u : Configuration) → Tells sheet r p q b u → ⊥
+    none-tells e b u t = List·Memᴰ·not-nil (subst (λ (ms : List Move). List·Memᴰ (labelled b u) ms) e (tells-listed b u t))
+
+    -- the first of them is the first that tells
+    first-tells : {m : Move} {ms : List Move} → unanswered sheet set rs classes p q ≡ (m ∷ ms) → Telling sheet r p q (m .label) (m .target)
+    first-tells {m} {ms} e =
+        record {
+          tells = unanswered-tells (subst (λ (xs : List Move). List·Memᴰ m xs) (sym e) (List·Memᴰ·head refl));
+          first = λ b u t h.
+              none-before-head moveOrder
+              (subst (λ (xs : List Move). Ascends moveBefore xs) e
+              (select-ascends moveOrder (λ k. not (redundant sheet set classes p k) && not (answers sheet set classes q k)) (moves sheet p) (moves-ascend sheet p)))
+              (labelled b u) (subst (λ (xs : List Move). List·Memᴰ (labelled b u) xs) e (tells-listed b u t)) h;
+        }
 
     -- where there is none, every irredundant move is answered
     none-answered : unanswered sheet set rs classes p q ≡ [] → Answered T (Round T r) p q
@@ -144,6 +163,14 @@ module _ (sheet : Sheet) (wf : WellFormed sheet) (set : List Configuration) (clo
             let a : apartAt (m .target) u ≤ r = apart-at-most set rs (m .target) u r l (apart-of u h) in
             let b : apartAt (m .target) u ≤ apartAt (m .target) (k .target) = reply-highest sheet set rs q m k c e h refl in
             omega (arith, b, apart-most (m .target) u target-in (closed .targets q c mq h) i (omega (arith, a)) f);
+        earliest = λ u h f before.
+            let c : Move = labelled (m .label) u in
+            let a : apartAt (m .target) u ≤ r = apart-at-most set rs (m .target) u r l (apart-of u h) in
+            let b : apartAt (m .target) u ≤ apartAt (m .target) (k .target) = reply-highest sheet set rs q m k c e h refl in
+            let d : apartAt (m .target) (k .target) ≤ apartAt (m .target) u =
+            apart-most (m .target) u target-in (closed .targets q c mq h) (apartAt (m .target) (k .target)) (omega (arith, a)) f in
+            reply-earliest sheet set rs q m k c e h refl (omega (arith, b, d))
+            (rw (eq-eqb (m .label) (k .label) (sym (reply-mem sheet set rs q m k e .1))) before);
       }
         where
           apart-of : (u : Configuration) → Moves sheet q (m .label) u → share set classes (m .target) u ≡ false
@@ -162,35 +189,40 @@ module _ (sheet : Sheet) (wf : WellFormed sheet) (set : List Configuration) (clo
 
   module _ (r : ℕ) (l : r < length rs) (more : Configuration → Configuration → List TrailStep) (ih : Walks r more)
       (p q : Configuration) (mp : List·Memᴰ p set) (mq : List·Memᴰ q set) (f : FirstApart T (Round T) (suc r) p q) where
-    left-walks : {m : Move} → List·Memᴰ m (unanswered sheet set rs (getD rs r []) p q)
+    left-walks : {m : Move} {ms : List Move} → unanswered sheet set rs (getD rs r []) p q ≡ (m ∷ ms)
         → Walkable sheet (suc r) p q (after sheet set rs more left m (replyTo sheet set rs q m))
-    left-walks {m} i = go (replyTo sheet set rs q m) refl
+    left-walks {m} {ms} a = go (replyTo sheet set rs q m) refl
       where
+        i : List·Memᴰ m (unanswered sheet set rs (getD rs r []) p q)
+        i = subst (λ (xs : List Move). List·Memᴰ m xs) (sym a) (List·Memᴰ·head refl)
+
         go : (k : Reply) → replyTo sheet set rs q m ≡ k → Walkable sheet (suc r) p q (after sheet set rs more left m k)
-        go none e = left-alone f (unanswered-tells r l p q mp mq i) (reply-no r l p q mp mq i e)
+        go none e = left-alone f (first-tells r l p q mp mq a) (reply-no r l p q mp mq i e)
         go (move k) e =
-            left-replied f (unanswered-tells r l p q mp mq i) (reply-replied r l p q mp mq i k e) (reply-lower r l p q mp mq i k e)
+            left-replied f (first-tells r l p q mp mq a) (reply-replied r l p q mp mq i k e) (reply-lower r l p q mp mq i k e)
             (ih (m .target) (k .target) (target-in r l p q mp mq i) (reply-in r l p q mp mq i k e) (reply-lower r l p q mp mq i k e))
 
-    right-walks : {m : Move} → ((b : ℕ) (u : Configuration) → Telling sheet r p q b u → ⊥)
-        → List·Memᴰ m (unanswered sheet set rs (getD rs r []) q p)
+    right-walks : {m : Move} {ms : List Move} → ((b : ℕ) (u : Configuration) → Tells sheet r p q b u → ⊥)
+        → unanswered sheet set rs (getD rs r []) q p ≡ (m ∷ ms)
         → Walkable sheet (suc r) p q (after sheet set rs more right m (replyTo sheet set rs p m))
-    right-walks {m} no-left i = go (replyTo sheet set rs p m) refl
+    right-walks {m} {ms} no-left a = go (replyTo sheet set rs p m) refl
       where
+        i : List·Memᴰ m (unanswered sheet set rs (getD rs r []) q p)
+        i = subst (λ (xs : List Move). List·Memᴰ m xs) (sym a) (List·Memᴰ·head refl)
+
         go : (k : Reply) → replyTo sheet set rs p m ≡ k → Walkable sheet (suc r) p q (after sheet set rs more right m k)
-        go none e = right-alone f no-left (unanswered-tells r l q p mq mp i) (reply-no r l q p mq mp i e)
+        go none e = right-alone f no-left (first-tells r l q p mq mp a) (reply-no r l q p mq mp i e)
         go (move k) e =
             let s : apartAt (k .target) (m .target) ≡ apartAt (m .target) (k .target) = apart-sym set rs (k .target) (m .target) in
-            right-replied f no-left (unanswered-tells r l q p mq mp i) (reply-replied r l q p mq mp i k e) (reply-lower r l q p mq mp i k e)
+            right-replied f no-left (first-tells r l q p mq mp a) (reply-replied r l q p mq mp i k e) (reply-lower r l q p mq mp i k e)
             (subst (λ (n : ℕ). Walkable sheet n (k .target) (m .target) (more (k .target) (m .target))) s
             (ih (k .target) (m .target) (reply-in r l q p mq mp i k e) (target-in r l q p mq mp i)
             (omega (arith, s, reply-lower r l q p mq mp i k e))))
 
     first-walks : (ms ks : List Move) → unanswered sheet set rs (getD rs r []) p q ≡ ms → unanswered sheet set rs (getD rs r []) q p ≡ ks
         → Walkable sheet (suc r) p q (firstOf sheet set rs more p q ms ks)
-    first-walks (m ∷ ms) ks a b = left-walks (subst (λ (xs : List Move). List·Memᴰ m xs) (sym a) (List·Memᴰ·head refl))
-    first-walks [] (k ∷ ks) a b =
-        right-walks (none-tells r l p q mp mq a) (subst (λ (xs : List Move). List·Memᴰ k xs) (sym b) (List·Memᴰ·head refl))
+    first-walks (m ∷ ms) ks a b = left-walks a
+    first-walks [] (k ∷ ks) a b = right-walks (none-tells r l p q mp mq a) b
     first-walks [] [] a b = absurd (f .apart (f .together r (omega arith), none-answered r l p q mp mq a, none-answered r l q p mq mp b))
 
   -- a pair of round 0 ends the trail

@@ -29,24 +29,69 @@ pub held-ordered : {sheet : Sheet} {set : List Configuration} {w : List ℕ} {n 
     → Ordered w n
 held-ordered H s = record { ascends = subst (Ascends configurationBefore) (sym (H .members)) s; packed = H .packed }
 
--- r is the place of the member x, where the set has it
+-- each member below low stands before x, and none from high on does
+pub record Halving (w : List ℕ) (n : ℕ) (x : Numbers) (low high : ℕ) : Type 0 where
+  pub below : Ordered w n → PackedIn x → (j : ℕ) → j < low → configurationBefore (memberAt w j) (standsFor x) ≡ true
+  pub above : Ordered w n → PackedIn x → (j : ℕ) → high ≤ j → j < n → configurationBefore (memberAt w j) (standsFor x) ≡ false
+
+-- in an ordered set r is the number of members that stand before x: its place, where the set has it
 pub record FoundAt (w : List ℕ) (n : ℕ) (x : Numbers) (r : ℕ) : Type 0 where
   pub at-most : r ≤ n
-  pub found : Ordered w n → PackedIn x → List·Memᴰ (standsFor x) (setIn w n) → (r < n) × (memberAt w r ≡ standsFor x)
+  pub halved : Halving w n x r r
 
 -- the configuration with the store of member t and the threads of member u
 abbrev pub liftedOf : List ℕ → ℕ → ℕ → Configuration
 liftedOf w t u = record { store = memberAt w t .store; threads = memberAt w u .threads }
 
--- r is the place of the member with the store of member t and the threads of member u, where the set has it
+-- in an ordered set r is the number of members that stand before the configuration with the store of member t and the threads of
+-- member u: its place, where the set has it
 pub record LiftedAt (w : List ℕ) (n t u r : ℕ) : Type 0 where
   pub at-most : r ≤ n
-  pub found : Ordered w n → t < n → u < n → List·Memᴰ (liftedOf w t u) (setIn w n) → (r < n) × (memberAt w r ≡ liftedOf w t u)
+  pub placed : Ordered w n → t < n → u < n
+      → ((j : ℕ) → j < r → configurationBefore (memberAt w j) (liftedOf w t u) ≡ true)
+      × ((j : ℕ) → r ≤ j → j < n → configurationBefore (memberAt w j) (liftedOf w t u) ≡ false)
 
--- x stands at none of the places below low, and after none of the members from high on
-pub record Halving (w : List ℕ) (n : ℕ) (x : Numbers) (low high : ℕ) : Type 0 where
-  pub below : Ordered w n → PackedIn x → (j : ℕ) → j < low → configurationBefore (memberAt w j) (standsFor x) ≡ true
-  pub above : Ordered w n → PackedIn x → (j : ℕ) → high ≤ j → j < n → configurationBefore (memberAt w j) (standsFor x) ≡ false
+-- in an ordered set, where each member below r stands before c and none from r on does, c stands at r, if the set has it
+module _ (w : List ℕ) (n : ℕ) (c : Configuration) (r : ℕ) (o : Ordered w n)
+    (below : (j : ℕ) → j < r → configurationBefore (memberAt w j) c ≡ true)
+    (above : (j : ℕ) → r ≤ j → j < n → configurationBefore (memberAt w j) c ≡ false) where
+  not-before-itself : configurationBefore c c ≡ false
+  not-before-itself = none (configurationBefore c c) refl
+    where
+      none : (t : Bool) → configurationBefore c c ≡ t → configurationBefore c c ≡ false
+      none true t = absurd (configurationOrder .irreflexive c t)
+      none false t = t
+
+  stands-at : List·Memᴰ c (setIn w n) → (r < n) × (memberAt w r ≡ c)
+  stands-at m =
+      let i = tabulate-mem (memberAt w) n m in
+      at i (ltb (i .0) r) refl (ltb r (i .0)) refl
+    where
+      at : (i : (i : ℕ) × (i < n) × (c ≡ memberAt w i)) → (s : Bool) → ltb (i .0) r ≡ s → (t : Bool) → ltb r (i .0) ≡ t
+          → (r < n) × (memberAt w r ≡ c)
+      at i true s t e =
+          true-false (configurationBefore c c)
+          (subst (λ (q : Configuration). configurationBefore q c ≡ true) (sym (i .2)) (below (i .0) (ltb-true (i .0) r s))) not-before-itself
+      at i false s true e =
+          let k : r < i .0 = ltb-true r (i .0) e in
+          true-false (configurationBefore (memberAt w r) c)
+          (subst (λ (q : Configuration). configurationBefore (memberAt w r) q ≡ true) (sym (i .2))
+          (ascends-at configurationOrder (memberAt w) n (o .ascends) r (i .0) k (i .1)))
+          (above r (omega arith) (omega (arith, i .1)))
+      at i false s false e =
+          let z : i .0 ≡ r = omega (arith, ltb-false (i .0) r s, ltb-false r (i .0) e) in
+          (omega (arith, i .1), ap (memberAt w) (sym z) ∙ sym (i .2))
+
+-- what is looked for stands at the place found, if the set has it
+pub found-there : {w : List ℕ} {n : ℕ} {x : Numbers} {r : ℕ} → FoundAt w n x r → Ordered w n → PackedIn x
+    → List·Memᴰ (standsFor x) (setIn w n) → (r < n) × (memberAt w r ≡ standsFor x)
+found-there {w} {n} {x} {r} f o p m = stands-at w n (standsFor x) r o (f .halved .below o p) (f .halved .above o p) m
+
+pub lifted-there : {w : List ℕ} {n t u r : ℕ} → LiftedAt w n t u r → Ordered w n → t < n → u < n → List·Memᴰ (liftedOf w t u) (setIn w n)
+    → (r < n) × (memberAt w r ≡ liftedOf w t u)
+lifted-there {w} {n} {t} {u} {r} f o ht hu m =
+    let h = f .placed o ht hu in
+    stands-at w n (liftedOf w t u) r o (h .0) (h .1) m
 
 module _ (w : List ℕ) (n : ℕ) (x : Numbers) where
   pub halving-first : Halving w n x 0 n
@@ -100,37 +145,12 @@ module _ (w : List ℕ) (n : ℕ) (x : Numbers) where
           let q : mid ≡ j = omega arith in
           subst (λ (k : ℕ). configurationBefore (memberAt w k) (standsFor x) ≡ false) q (here o p)
 
-  -- where the two ends meet, x stands, if the set has it
+  -- where the two ends meet, the place is found
   pub halving-last : (low high : ℕ) → Halving w n x low high → high ≤ low → low ≤ n → FoundAt w n x low
-  halving-last low high b h l = record { at-most = l; found = found }
-    where
-      self : PackedIn x → configurationBefore (standsFor x) (standsFor x) ≡ false
-      self p = none (configurationBefore (standsFor x) (standsFor x)) refl
-        where
-          none : (t : Bool) → configurationBefore (standsFor x) (standsFor x) ≡ t → configurationBefore (standsFor x) (standsFor x) ≡ false
-          none true t = absurd (configurationOrder .irreflexive (standsFor x) t)
-          none false t = t
-
-      found : Ordered w n → PackedIn x → List·Memᴰ (standsFor x) (setIn w n) → (low < n) × (memberAt w low ≡ standsFor x)
-      found o p m =
-          let i = tabulate-mem (memberAt w) n m in
-          at i (ltb (i .0) low) refl (ltb low (i .0)) refl
-        where
-          at : (i : (i : ℕ) × (i < n) × (standsFor x ≡ memberAt w i)) → (s : Bool) → ltb (i .0) low ≡ s → (t : Bool) → ltb low (i .0) ≡ t
-              → (low < n) × (memberAt w low ≡ standsFor x)
-          at i true s t e =
-              true-false (configurationBefore (standsFor x) (standsFor x))
-              (subst (λ (q : Configuration). configurationBefore q (standsFor x) ≡ true) (sym (i .2))
-              (b .below o p (i .0) (ltb-true (i .0) low s))) (self p)
-          at i false s true e =
-              let k : low < i .0 = ltb-true low (i .0) e in
-              true-false (configurationBefore (memberAt w low) (standsFor x))
-              (subst (λ (q : Configuration). configurationBefore (memberAt w low) q ≡ true) (sym (i .2))
-              (ascends-at configurationOrder (memberAt w) n (o .ascends) low (i .0) k (i .1)))
-              (b .above o p low (omega arith) (omega (arith, i .1)))
-          at i false s false e =
-              let z : i .0 ≡ low = omega (arith, ltb-false (i .0) low s, ltb-false low (i .0) e) in
-              (omega (arith, i .1), ap (memberAt w) (sym z) ∙ sym (i .2))
+  halving-last low high b h l = record {
+    at-most = l;
+    halved = record { below = b .below; above = λ o p j k i. b .above o p j (omega arith) i };
+  }
 
 -- the store of one member and the count of threads of another in one number
 module _ (w : List ℕ) (n t u : ℕ) (x : Numbers)
@@ -159,7 +179,9 @@ module _ (w : List ℕ) (n t u : ℕ) (x : Numbers)
   pub lifted-found : (r : ℕ) → FoundAt w n x r → LiftedAt w n t u r
   lifted-found r f = record {
     at-most = f .at-most;
-    found = λ o ht hu m.
-        let z = f .found o (lifted-packed o ht hu) (subst (λ (q : Configuration). List·Memᴰ q (setIn w n)) (sym lifted-numbers) m) in
-        (z .0, z .1 ∙ lifted-numbers);
+    placed = λ o ht hu.
+        let p = lifted-packed o ht hu in (
+          (λ j l. subst (λ (q : Configuration). configurationBefore (memberAt w j) q ≡ true) lifted-numbers (f .halved .below o p j l)),
+          (λ j l k. subst (λ (q : Configuration). configurationBefore (memberAt w j) q ≡ false) lifted-numbers (f .halved .above o p j l k)),
+        );
   }

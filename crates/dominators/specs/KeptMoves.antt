@@ -22,7 +22,7 @@ use Rattle.comparison_laws.specs.RoundLaws.{ClosedList, Sharing}
 use Rattle.kept_classes.specs.DominatingMoves.{dominates, Passed, passed-none, passed-later}
 use Rattle.kept_classes.specs.MemberLines.{packedLine, lineOf}
 use Rattle.kept_classes.specs.RoundLayout.{SameSet, held-member-same, held-first-same, held-total-same, held-in, held-at, held-count, number-in, moves-count, move-at, target-class, liftedTarget, dominates-label, dominates-outside, lifted-in, dominates-held}
-use Rattle.dominators.specs.FoundMembers.{LiftedAt, held-ordered}
+use Rattle.dominators.specs.FoundMembers.{LiftedAt, lifted-there, held-ordered}
 use Rattle.work_layout.specs.WorkLayout.{movesAt, dominatorsAt}
 use Rattle.work_layout.specs.ClassLayout.{classIn, classesIn}
 
@@ -207,7 +207,7 @@ module _ {sheet : Sheet} {set : List Configuration} {numbers : List ℕ} {p : Co
       let s : Within (memberAt w (y k % 65536) .store) (memberAt w (y j % 65536) .store) =
       includes-within (memberAt w (y j % 65536) .store) (memberAt w (y k % 65536) .store)
       (and-right (strictlyBelow (y k / 65536) (y j / 65536)) (includes (memberAt w (y j % 65536) .store) (memberAt w (y k % 65536) .store)) t) in
-      let z = f .found (held-ordered H (M .round .ascends)) (span-target j hj) (span-target k hk)
+      let z = lifted-there f (held-ordered H (M .round .ascends)) (span-target j hj) (span-target k hk)
       (subst (λ (c : List Configuration). List·Memᴰ (liftedTarget w (y j) (y k)) c) (sym (H .members))
       (lifted-in sheet set w n m H (M .round .wf) (M .round .closed) i (M .inside) (y j) (y k) (span-number j hj) (span-number k hk) b s)) in
       record {

@@ -11,7 +11,7 @@ use Rattle.sheets.specs.Sheet.{Configuration}
 use Rattle.moves.specs.Orders.{Move}
 use Rattle.moves.specs.Moves.{moves, add}
 use Rattle.comparison.specs.Promise.{MemberMove}
-use Rattle.ask_labels.specs.AskLabels.{TableOf}
+use Rattle.label_search.specs.AskLabels.{TableOf}
 use Rattle.member_table.specs.MemberTable.{memberIn, idIn}
 use Rattle.collected_moves.specs.declared.Running.{Running}
 use Rattle.collected_moves.specs.CollectedMoves.{Collecting, memberPart, membersOf}

@@ -14,7 +14,7 @@ use Rattle.list_laws.specs.Frames.{SameOutside, outside-set, outside-wider, out
 use Rattle.sheets.specs.Sheet.{Configuration}
 use Rattle.number_lists.specs.NumberLists.{numberOrder, numbersIn}
 use Rattle.number_lists.specs.NumberLaws.{numbers-same}
-use Rattle.ask_labels.specs.LabelScanLaws.{table-agree}
+use Rattle.label_search.specs.LabelScanLaws.{table-agree}
 use Rattle.ask_labels.specs.LabelShelfLaws.{sets-few}
 use Rattle.member_table.specs.MemberTable.{memberIn, idIn, membersIn, Kept}
 use Rattle.member_table.specs.TableInPart.{part-outside}

@@ -117,7 +117,7 @@ pub fn find_set(
     ensures { λ r. ⌜ SetFound (sheetOf sheet) (limitsOf caps) (startsIn seeds k) (now (work .entry)) (now (work .exit)) r ⌝ }
 {
     let rules = sheet.rules;
-    closure_table::fill_closures(&rules, sheet.rule_count as usize, sheet.facts, work);
+    closure_filling::fill_closures(&rules, sheet.rule_count as usize, sheet.facts, work);
     clear_spans(work);
     let e = enter_seeds(work, seeds, k, caps);
     let Noted::On(s) = e else {

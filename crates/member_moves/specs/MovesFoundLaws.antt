@@ -35,7 +35,7 @@ use Rattle.walk_state.specs.declared.Walked.the-variants.{On, Over}
 use Rattle.walk_state.specs.WalkState.{NodesOf, MemberFits, VisitFits, marksOf, Walking, InReachBelow, Covering, OnSheet, TurnOver}
 use Rattle.walk_state.specs.PushedInWalk.{topped, pushed-walking, stored-members, stored-moves, stored-marks, stored-grown}
 use Rattle.node_walk.specs.NodeVisits.{WalkedOn, WalkedAs}
-use Rattle.node_walk.specs.MarkLaws.{grown-sheet}
+use Rattle.node_marks.specs.MarkLaws.{grown-sheet}
 use Rattle.member_moves.specs.MovesFound.{FoundOn, FoundOver, FoundBelow, NextOn, NextOver, NextFound}
 use Rattle.work_layout.specs.WorkLayout.{marksAt, pendingAt, pendingEnd}
 

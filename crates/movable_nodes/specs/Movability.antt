@@ -2,7 +2,7 @@
 use mathlib.Core.Path.{_≡_}
 use mathlib.Core.Bool.{Bool, cond}
 use mathlib.Core.List.{List}
-use Prim.Native.Nat.{ℕ, _<_}
+use Prim.Native.Nat.{ℕ, _≤_, _<_}
 use lib.ListN.{getD}
 use lib.Dec.{eqb}
 use Rattle.list_laws.specs.Tabulate.{tabulate}
@@ -26,6 +26,7 @@ marked table k = eqb (getD table k 0) 1
 abbrev pub markFor : List ℕ → Node → ℕ
 markFor table v = mark (movableOf (marked table) v)
 
--- the table has the mark of each of the first n nodes
+-- the table has the mark of each of the first n nodes, and 0 beyond them
 pub record MovableHeld (nodes : List Node) (n : ℕ) (table : List ℕ) : Type 0 where
   pub at : (k : ℕ) → k < n → getD table k 0 ≡ cond (movable nodes k) 1 0
+  pub beyond : (k : ℕ) → n ≤ k → getD table k 0 ≡ 0

@@ -2,9 +2,9 @@
 use mathlib.Core.Path.{_≡_, refl, sym, ap, _∙_, subst}
 use mathlib.Core.Bool.{Bool, true, false, cond}
 use mathlib.Core.List.{List}
-use Prim.Native.Nat.{ℕ, _+_, _≤_, _<_}
+use Prim.Native.Nat.{ℕ, zero, suc, _+_, _≤_, _<_}
 use native.Mathlib.Omega.{arith}
-use lib.ListN.{length, getD, set}
+use lib.ListN.{length, getD, set, replicate}
 use lib.Dec.{eqb, ltb}
 use lib.Seq.{getD-set-same, getD-set-other}
 use borrow.Author.Tests.{eq-eqb, ne-eqb, ltb-true, ltb-false}
@@ -94,13 +94,22 @@ module _ (kinds firsts seconds : List ℕ) (n k : ℕ) (inside : k < n) where
       read false e = rw e
 
 -- ---- the table
-pub held-none : (ns : List Node) (table : List ℕ) → MovableHeld ns 0 table
-held-none ns table = record { at = λ k l. absurd (omega arith) }
+pub held-none : (ns : List Node) (size : ℕ) → MovableHeld ns 0 (replicate size 0)
+held-none ns size = record { at = λ k l. absurd (omega arith); beyond = λ k l. zeros size k }
+  where
+    zeros : (n k : ℕ) → _≡_ {A = ℕ} (getD (replicate n 0) k 0) 0
+    zeros zero k = refl
+    zeros (suc n) zero = refl
+    zeros (suc n) (suc k) = zeros n k
 
 -- one mark more
 pub held-next : (ns : List Node) (k : ℕ) (table : List ℕ) (v : ℕ) → k < length table → v ≡ cond (movable ns k) 1 0
     → MovableHeld ns k table → MovableHeld ns (k + 1) (set table k v)
-held-next ns k table v inside e held = record { at = λ j l. go j l (tested (ltb j k)) }
+held-next ns k table v inside e held =
+    record {
+      at = λ j l. go j l (tested (ltb j k));
+      beyond = λ j l. getD-set-other table k j v 0 (omega arith) ∙ held .beyond j (omega arith);
+    }
   where
     go : (j : ℕ) → j < k + 1 → Tested (ltb j k) → getD (set table k v) j 0 ≡ cond (movable ns j) 1 0
     go j l (passes t) =

@@ -7,7 +7,7 @@ use native.Mathlib.Omega.{arith}
 use lib.Dec.{eqb}
 use borrow.Author.Tests.{ne-eqb}
 use Rattle.stores.specs.Stores.{Rule, closure}
-use Rattle.sheets.specs.Reading.{nodeFrom}
+use Rattle.sheet_reading.specs.Reading.{nodeFrom}
 use Rattle.sheet_laws.specs.FieldLaws.{KindIs, is-stop, is-tell, is-ask, is-pair, kindIs, pair-tests}
 use Rattle.sheet_types.specs.HeldSheet.{nodeHeld}
 

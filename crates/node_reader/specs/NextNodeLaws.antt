@@ -12,7 +12,7 @@ use Rattle.list_laws.specs.Tabulate.{tabulate-next, tabulate-same, tabulate-len
 use Rattle.stores.specs.Stores.{Rule}
 use Rattle.sheets.specs.SheetLimits.{maxThreads, maxNodes}
 use Rattle.sheets.specs.Sheet.{Node, opened}
-use Rattle.sheets.specs.Reading.{got, refused, andThen, refusedIf, nodeAt}
+use Rattle.sheet_reading.specs.Reading.{got, refused, andThen, refusedIf, nodeAt}
 use Rattle.sheet_laws.specs.OpeningLaws.{LowerNames}
 use Rattle.sheet_laws.specs.NodeFields.{nodeFieldsAt, opensToMany, node-checked}
 use Rattle.sheet_laws.specs.SectionLaws.{node-fields-lower}

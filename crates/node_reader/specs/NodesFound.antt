@@ -5,9 +5,9 @@ use Prim.Native.Nat.{ℕ, _≤_}
 use native.Mathlib.Omega.{arith}
 use lib.ListN.{length, set}
 use Rattle.stores.specs.Stores.{Rule}
-use Rattle.sheets.specs.SheetLimits.{minNodes, maxNodes}
+use Rattle.sheets.specs.SheetLimits.{minNodes, maxNodes, maxKind}
 use Rattle.sheets.specs.Sheet.{Node}
-use Rattle.sheets.specs.Reading.{Reading, got, refused, maxKind, nodeFrom}
+use Rattle.sheet_reading.specs.Reading.{Reading, got, refused, nodeFrom}
 use Rattle.sheet_laws.specs.NodeFields.{nodeFieldsAt}
 use Rattle.sheet_types.specs.HeldSheet.{nodeHeld, nodeRead, nodesRead, nodesIn, answerWith}
 use Rattle.sheet_types.specs.SectionLaws.{refused-with, refused-never}

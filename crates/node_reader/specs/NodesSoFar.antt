@@ -8,7 +8,7 @@ use Rattle.list_laws.specs.Tabulate.{tabulate-none}
 use Rattle.stores.specs.Stores.{Rule}
 use Rattle.sheets.specs.SheetLimits.{minNodes, maxNodes}
 use Rattle.sheets.specs.Sheet.{Node}
-use Rattle.sheets.specs.Reading.{Reading, got, refused, recordsFrom, nodeAt}
+use Rattle.sheet_reading.specs.Reading.{Reading, got, refused, recordsFrom, nodeAt}
 use Rattle.sheet_laws.specs.RecordLaws.{records-none, records-refused, records-next}
 use Rattle.sheet_types.specs.HeldSheet.{nodeIn, nodesIn}
 use Rattle.sheet_types.specs.SectionLaws.{refused-with, refused-never}

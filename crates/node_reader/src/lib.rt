@@ -10,7 +10,7 @@ ghost use mathlib.Core.List.{[]};
 ghost use Prim.Native.Nat.{_≤_};
 ghost use lib.ListN.{length};
 ghost use Rattle.sheets.specs.SheetLimits.{maxFacts, maxRules, minNodes, maxNodes};
-ghost use Rattle.sheets.specs.Reading.{nodeAt, nodesAt, recordsFrom};
+ghost use Rattle.sheet_reading.specs.Reading.{nodeAt, nodesAt, recordsFrom};
 ghost use Rattle.set_closure.specs.RuleTable.{rulesIn};
 ghost use Rattle.node_reader.specs.FirstFields.{closedFirst};
 ghost use Rattle.node_reader.specs.NodesFound.{NodeFound, NodesFound};
@@ -137,7 +137,7 @@ fn nodes_from(
     }
 }
 
-// The nodes and the threads that each opens to.
+// The nodes and the threads that each opens to. Beside a refusal the arrays are free.
 pub fn nodes_at(s: &[u8], facts: u16, rules: &[u16; 64], rule_count: u16, at: usize) -> NodesRead
     requires { ⌜ (at ≤ length (now s)) × (facts ≤ maxFacts) × («rule_count» ≤ maxRules) ⌝ }
     ensures { λ r. ⌜ NodesFound (nodesAt facts (rulesIn (now (rules .entry)) «rule_count») (now (s .entry)) at) (now (s .entry)) r ⌝ }

@@ -1,3 +1,2 @@
 pub mod NodeVisits
-pub mod MarkLaws
 pub mod NodeVisitLaws

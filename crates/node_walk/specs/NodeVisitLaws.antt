@@ -27,9 +27,10 @@ use Rattle.walk_state.specs.declared.Walked.the-variants.{On, Over}
 use Rattle.walk_state.specs.WalkState.{NodesLent, NodesOf, VisitFits, Walking, InReach, Covering, OnSheet, Carried, TurnOn, TurnOver, Turned}
 use Rattle.walk_state.specs.NotedInWalk.{noted-none, noted-turn}
 use Rattle.both_either_visits.specs.StoredParts.{NodeKnown}
-use Rattle.node_walk.specs.declared.Marked.{Marked}
-use Rattle.node_walk.specs.NodeVisits.{SeenAs, WalkedOn}
-use Rattle.node_walk.specs.MarkLaws.{grown-sheet, unstacked, last-entry, marked-walking, marked-turn, marked-turn-over, passed-turn}
+use Rattle.node_marks.specs.declared.Marked.{Marked}
+use Rattle.node_marks.specs.NodeMarks.{SeenAs}
+use Rattle.node_walk.specs.NodeVisits.{WalkedOn}
+use Rattle.node_marks.specs.MarkLaws.{grown-sheet, unstacked, last-entry, marked-walking, marked-turn, marked-turn-over, passed-turn}
 
 -- ---- a node by its kind byte and its fields
 module _ (kinds firsts seconds : List ℕ) (n k : ℕ) (l : k < n) where

@@ -1,80 +1,16 @@
 // The walk: the last node to visit is visited by its kind, until none is left.
-use member_table::Entry;
+use node_marks::see;
 use nodes_to_visit::NodeBeside;
-use packing::Numbers;
 use walk_state::Basis;
 use walk_state::Walk;
 use walk_state::Walked;
-use work_layout::MARKS;
-use work_layout::PENDING;
-ghost use mathlib.Core.Path.{_≡_};
 ghost use mathlib.Core.List.{[], _∷_};
 ghost use Prim.Native.Nat.{_+_, _≤_, _<_};
-ghost use lib.ListN.{length};
-ghost use Rattle.packing.specs.Packing.{PackedIn};
-ghost use Rattle.member_table.specs.MemberTable.{partAt, Kept};
 ghost use Rattle.sheet_laws.specs.Ranks.{rankOf};
 ghost use Rattle.movable_nodes.specs.Movability.{nodesHeld};
-ghost use Rattle.nodes_to_visit.specs.NodesToVisit.{nodeBeside, nodeFor};
+ghost use Rattle.nodes_to_visit.specs.NodesToVisit.{nodeBeside};
 ghost use Rattle.walk_state.specs.WalkState.{NodesLent, VisitFits, Walking, Turned};
-ghost use Rattle.node_walk.specs.NodeVisits.{SeenAs, MarkedAs, WalkedAs};
-ghost use Rattle.work_layout.specs.WorkLayout.{marksAt, pendingEnd};
-
-// Whether a node with threads beside it is visited for the first time, and how many were visited.
-pub struct Marked {
-    pub fresh: bool,
-    pub marks: usize,
-}
-
-// Marks a node with threads beside it as visited. Where there is no room for a mark, all are forgotten first.
-fn mark(work: &mut [u32], marks: usize, x: Numbers) -> Marked
-    requires { ⌜ Kept (partAt (now work) marksAt) marks × PackedIn x ⌝ }
-    ensures { λ r. ⌜ MarkedAs (now (work .entry)) marks (nodeFor x) (now (work .exit)) r ⌝ }
-{
-    let r = member_table::enter_at(work, MARKS, marks, 512, x);
-    let Entry::Member(_, n, _) = r else {
-        let again = member_table::enter_at(work, MARKS, 0, 512, x);
-        let Entry::Member(_, one, _) = again else {
-            return Marked {
-                fresh: true,
-                marks: 0,
-            };
-        };
-        return Marked {
-            fresh: true,
-            marks: one,
-        };
-    };
-    Marked {
-        fresh: marks < n,
-        marks: n,
-    }
-}
-
-// Whether the entry below, if there is one, has other threads. Any answer would do: it chooses what is marked.
-fn alone(work: &[u32], top: usize, x: Numbers) -> bool
-    requires { ⌜ (top ≤ 64) × (pendingEnd ≤ length (now work)) ⌝ }
-{
-    if top == 0 {
-        return true;
-    }
-    work[PENDING + 3 * top - 2] != x.b || work[PENDING + 3 * top - 1] != x.c
-}
-
-// A node that is made of others and alone with its threads among those to visit is marked. Any other is taken as new: with the
-// same threads it comes up once.
-fn see(work: &mut [u32], kind: u8, marks: usize, top: usize, x: Numbers) -> Marked
-    requires { ⌜ Kept (partAt (now work) marksAt) marks × PackedIn x × (top ≤ 64) × (pendingEnd ≤ length (now work)) ⌝ }
-    ensures { λ r. ⌜ SeenAs (now (work .entry)) marks (nodeFor x) (now (work .exit)) r ⌝ }
-{
-    if kind < 3 {
-        return Marked { fresh: true, marks };
-    }
-    if !alone(work, top, x) {
-        return Marked { fresh: true, marks };
-    }
-    mark(work, marks, x)
-}
+ghost use Rattle.node_walk.specs.NodeVisits.{WalkedAs};
 
 // The node of e by its kind.
 fn visit_kind(

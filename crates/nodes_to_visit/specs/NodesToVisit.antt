@@ -1,7 +1,7 @@
 -- Nodes with threads beside them that are still to be visited, in the work slice: entry i has three numbers, those of a
 -- configuration with the node's number in the store's place.
 use mathlib.Core.Path.{_≡_, ap}
-use mathlib.Core.Bool.{true}
+use mathlib.Core.Bool.{true, false}
 use mathlib.Core.List.{List}
 use Prim.Native.Nat.{ℕ, _+_, _*_, _≤_, _<_}
 use lib.ListN.{length, getD, take}
@@ -67,13 +67,16 @@ pub record PutAmong (rank : ℕ → ℕ) (v : List ℕ) (top n k : ℕ) (x : spe
   pub packed : (i : ℕ) → i ≤ top → PendingPacked w i
   pub outside : SameOutside pendingAt pendingEnd v w
 
--- x is among the nodes to visit, `next` of them where there were `top`: it was there already, or was put in
+-- x is among the nodes to visit, `next` of them where there were `top`: it was there already, or was put in. Two things are free: whether
+-- an x that is there already is put in once more, and the place k, as long as all entries from there on have nodes of a rank below n.
 pub data Entered (rank : ℕ → ℕ) (v : List ℕ) (top n : ℕ) (x : spec.NodeBeside) : List ℕ → ℕ → Type 0 where
   there : (i : ℕ) → i < top → pendingOne v i ≡ x → Entered rank v top n x v top
   put : (k : ℕ) {w : List ℕ} → PutAmong rank v top n k x w → Entered rank v top n x w (top + 1)
 
--- e with the threads of a node put among its own, in ascending order, where they are not more than the limit
+-- e with the threads of a node put among its own, in ascending order, where they are not more than the limit, and e itself where
+-- they are. The array beyond the count is free.
 pub record PutBeside (threads : List ℕ) (e : NodeBeside) (limit : ℕ) (r : Beside) : Type 0 where
   pub fits : r .fits ≡ leb (e .count + length threads) limit
   pub joined : r .fits ≡ true → nodeBeside (r .at) ≡ record { node = e .node; threads = insertAll (nodeBeside e .threads) threads }
   pub count : r .fits ≡ true → r .at .count ≡ e .count + length threads
+  pub kept : r .fits ≡ false → r .at ≡ e

@@ -1,5 +1,5 @@
 -- Three numbers stored as an entry, and the threads of a node put among those beside another.
-use mathlib.Core.Path.{_≡_, sym, _∙_}
+use mathlib.Core.Path.{_≡_, refl, sym, _∙_}
 use mathlib.Core.Bool.{true, false}
 use mathlib.Core.List.{List}
 use Prim.Native.Nat.{ℕ, _+_, _*_, _≤_, _<_}
@@ -79,6 +79,7 @@ module _ (table : List ℕ) (from k : ℕ) (e : NodeBeside) (limit n : ℕ) (fit
         fits = sym (lt-leb (e .count + length (take k (drop from table))) limit (omega arith));
         joined = λ q. absurd (false-true q);
         count = λ q. absurd (false-true q);
+        kept = λ q. refl;
       }
 
   -- they are not
@@ -92,4 +93,5 @@ module _ (table : List ℕ) (from k : ℕ) (e : NodeBeside) (limit n : ℕ) (fit
         fits = sym (le-leb (e .count + length (take k (drop from table))) limit (omega arith));
         joined = λ t. rw (q, same);
         count = λ t. omega arith;
+        kept = λ t. absurd (false-true (sym t));
       }

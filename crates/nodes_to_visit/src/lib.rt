@@ -194,7 +194,7 @@ fn insert_from(opened: &[u8], from: usize, more: usize, old: [u8; 8], n: usize) 
     threads
 }
 
-// e with the threads that node q opens to put among its own.
+// e with the threads that node q opens to put among its own; e itself where they are more than the limit.
 pub fn put_beside(
     counts: &[u8; 64],
     opened: &[u8; 512],
@@ -236,8 +236,9 @@ pub fn thread_beside(e: Configuration, i: usize) -> NodeBeside
     requires { ⌜ (i < e .count) × (e .count ≤ 8) ⌝ }
     ensures { λ r. ⌜ (nodeBeside r ≡ threadAt (configuration e) i) × (r .count + 1 ≡ e .count) ⌝ }
 {
+    let own = e.threads;
+    let node = own[i] as u16;
     let mut threads = e.threads;
-    let node = threads[i] as u16;
     let mut j: usize = 0;
     while j < 7 {
         threads[j] = later(threads[j], threads[j + 1], i, j);

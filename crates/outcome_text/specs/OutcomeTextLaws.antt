@@ -10,9 +10,9 @@ use lib.Dec.{ltb}
 use borrow.Author.Tests.{le-ltb, lt-ltb}
 use Rattle.printed_lines.specs.Lines.{line, refusedWord}
 use Rattle.comparison.specs.Report as spec
-use Rattle.comparison.specs.Report.{Verdict, SAME, DIFF, reportBytes, reportLength}
-use Rattle.comparison.specs.Frame.{reported, refusal}
-use Rattle.comparison.specs.Call.{Compares, answerAfter, compare}
+use Rattle.comparison.specs.Report.{Verdict, SAME, DIFF, reportBytes, reportLength, Compares}
+use Rattle.comparison.specs.Outcome.{reported, refusal}
+use Rattle.comparison.specs.Call.{answerAfter, compare}
 use Rattle.comparison.specs.Print.{printed}
 use Rattle.comparison.specs.CallLimits.{limits}
 use Rattle.answer_laws.specs.FittingLaws.{outcome-fits}
@@ -23,7 +23,7 @@ use Rattle.answers.specs.declared.Reported.{Reported}
 use Rattle.answers.specs.declared.Answer.{Answer}
 use Rattle.answers.specs.declared.Answer.the-variants.{Report, Refused}
 use Rattle.answers.specs.Returned.{isSame, returnedOf, returned}
-use Rattle.outcome_text.specs.OutcomeText.{Printable, OutcomeWritten, OutcomeStored}
+use Rattle.outcome_text.specs.OutcomeText.{answeredText, Printable, OutcomeWritten, OutcomeStored}
 use Rattle.outcome_text.specs.TextRoom.{textRoom}
 
 -- an answer after a report begins with its bytes
@@ -48,6 +48,8 @@ same-test-of DIFF = refl
 pub report-outcome : {r : Answer} {x : Reported} → r ≡ Report x → (answer before after : List ℕ) (k : ℕ)
     → ReportWritten (x .same) (x .round) answer before after k → OutcomeStored r answer before after k
 report-outcome {r} {x} is answer before after k w = record {
+  slice = subst (λ (q : Answer). after ≡ answeredText q answer ++ drop (length (answeredText q answer)) before) (sym is) (w .slice);
+  long = subst (λ (q : Answer). k ≡ length (answeredText q answer)) (sym is) (w .count);
   text = λ o e a. both o (sym is ∙ e) a .1;
   count = λ o e a. both o (sym is ∙ e) a .0;
   inside = w .inside;
@@ -65,6 +67,8 @@ report-outcome {r} {x} is answer before after k w = record {
 pub refusal-outcome : {r : Answer} {number place : ℕ} → r ≡ Refused number place → (answer before after : List ℕ) (k : ℕ)
     → lineRoom ≤ length before → Written (line refusedWord (number ∷ place ∷ [])) before after k → OutcomeStored r answer before after k
 refusal-outcome {r} {number} {place} is answer before after k room w = record {
+  slice = subst (λ (q : Answer). after ≡ answeredText q answer ++ drop (length (answeredText q answer)) before) (sym is) (written .1);
+  long = subst (λ (q : Answer). k ≡ length (answeredText q answer)) (sym is) (written .0);
   text = λ o e a. both o (sym is ∙ e) .1;
   count = λ o e a. both o (sym is ∙ e) .0;
   inside = w .inside;
@@ -97,6 +101,8 @@ pub outcome-short : (r : Answer) (answer out : List ℕ) → length out < textRo
 outcome-short r answer out h =
     let short : ltb (length out) textRoom ≡ true = lt-ltb (length out) textRoom h in
     record {
+      slice = ap (λ (b : Bool). cond b out (answeredText r answer ++ drop (length (answeredText r answer)) out)) (sym short);
+      long = ap (λ (b : Bool). cond b 0 (length (answeredText r answer))) (sym short);
       text = λ o e a. ap (λ (b : Bool). cond b out (printed o ++ drop (length (printed o)) out)) (sym short);
       count = λ o e a. ap (λ (b : Bool). cond b 0 (length (printed o))) (sym short);
       inside = omega arith;
@@ -105,9 +111,11 @@ outcome-short r answer out h =
 
 pub outcome-written : {r : Answer} {answer out after : List ℕ} {k : ℕ} → textRoom ≤ length out → OutcomeStored r answer out after k
     → OutcomeWritten r answer out after k
-outcome-written {out = out} h s =
+outcome-written {r = r} {answer = answer} {out = out} h s =
     let room : ltb (length out) textRoom ≡ false = le-ltb (length out) textRoom h in
     record {
+      slice = s .slice ∙ ap (λ (b : Bool). cond b out (answeredText r answer ++ drop (length (answeredText r answer)) out)) (sym room);
+      long = s .long ∙ ap (λ (b : Bool). cond b 0 (length (answeredText r answer))) (sym room);
       text = λ o e a. s .text o e a ∙ ap (λ (b : Bool). cond b out (printed o ++ drop (length (printed o)) out)) (sym room);
       count = λ o e a. s .count o e a ∙ ap (λ (b : Bool). cond b 0 (length (printed o))) (sym room);
       inside = s .inside;

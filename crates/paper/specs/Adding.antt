@@ -33,7 +33,7 @@ module _ (s : Sheet) where
       → Reduces s (with-added s e x) (with-added s e t)
   added-sound x a t e cx ce l m =
       subst (λ (d : ℕ). Reduction s (x .term) d (t .term) (join (s .rules) (t .store) e)) (join-under s (x .store) a e (ce .closed) l)
-      (reduction-more s e (transition-sound s cx m))
+      (reduction-more s e (transition-sound s (cx .closed) m))
 
   -- every reduction with e added is such a transition
   pub record Origin (x : Conf) (e : ℕ) (t : Conf) : Type 0 where

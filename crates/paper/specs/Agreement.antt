@@ -76,8 +76,9 @@ module _ (s : Sheet) where
   reduction-transition wf p d p' d' k = ((λ r. labelled-true wf k r), (λ t. unlabelled k refl t))
 
   -- ---- sound: a transition is a reduction once its label is added
-  pub transition-sound : {p p' : Term} {d a d' : ℕ} → Con s d → Transition s p d a p' d' → Reduction s p (join (s .rules) d a) p' d'
-  transition-sound k (LR1 c d) = subst (λ (x : ℕ). Reduction s (tell c) x nil (J d c)) (sym (join-least-store d (k .closed))) (R1 c d)
+  pub transition-sound : {p p' : Term} {d a d' : ℕ} → Closed (s .rules) d → Transition s p d a p' d'
+      → Reduction s p (join (s .rules) d a) p' d'
+  transition-sound k (LR1 c d) = subst (λ (x : ℕ). Reduction s (tell c) x nil (J d c)) (sym (join-least-store d k)) (R1 c d)
   transition-sound k (LR2 c d a p m) = R2 c (J d a) p (m .entails)
   transition-sound k (LR3-left r) = R3-left (transition-sound k r)
   transition-sound k (LR3-right r) = R3-right (transition-sound k r)

@@ -19,7 +19,8 @@ module _ (s : Sheet) where
   abbrev pub IR : (Conf → Conf → Type 0) → Conf → Conf → Type 0
   IR P x y = (a : ℕ) (t : Conf) → Moves s x a t → (RedundantIn s P x a t → ⊥) → (u : Conf) × Moves s y a u × P t u
 
-  -- Pⁿ: P⁰ has equal stores in one block
+  -- Pⁿ: P⁰ has equal stores in one block. IR is printed from the one to the other only; a block has no direction, so both
+  -- directions stand here.
   abbrev pub Partition : ℕ → Conf → Conf → Type 0
   Partition zero x y = x .store ≡ y .store
   Partition (suc n) x y = Partition n x y × IR (Partition n) x y × IR (Partition n) y x

@@ -16,6 +16,7 @@ use Rattle.comparison_laws.specs.SheetMoves.{lawful, move-of}
 use Rattle.paper.specs.Terms.{Conf, Reads, sideBySide}
 use Rattle.paper.specs.Bisimulations.{Con, Moves, with-added, SaturatedBarbedBisimulation, SaturatedBarbedBisimilar}
 use Rattle.paper.specs.Bridge.{transition-to-move, reduction-to-move, move-to-reduction, side-by-side-reads}
+use Rattle.paper.specs.ReadsOfSheet.{reads-of-sheet}
 use Rattle.paper.specs.Barbs.{same-stores}
 
 -- a configuration of document 01 as one of the paper's: its threads side by side
@@ -216,3 +217,9 @@ module _ (s : Sheet) where
         let oq : OfSheet s q = fit q mq in
         saturated-agrees (written p) (written q) p q op oq (side-by-side-reads s wf p (op .process))
         (side-by-side-reads s wf q (oq .process))
+
+    -- the same for all processes made of nodes, at constraints
+    pub saturated-agrees-closed : (x y : Conf) (p q : Configuration) → Con s (x .store) → Con s (y .store) → Reads s x p → Reads s y q
+        → SaturatedBarbedBisimilar s x y ↔ Bisimilar (transitions s) p q
+    saturated-agrees-closed x y p q cx cy r t =
+        saturated-agrees x y p q (reads-of-sheet s wf x p cx r) (reads-of-sheet s wf y q cy t) r t

@@ -21,7 +21,7 @@ use Rattle.lists.specs.Lists.{select}
 use Rattle.stores.specs.Stores.{closure, passes, pass, conclusions}
 use Rattle.sheets.specs.Sheet.{tell, ask, either, Configuration, Sheet, openWithin}
 use Rattle.sheets.specs.WellFormed.{WellFormed, Admissible}
-use Rattle.sheets.specs.Reading.{got, recordsFrom, countAt, setAt, nameBytes, nameAt, namesFrom, factsAt, premiseAt, ruleAt, rulesAt, kindAt, firstAt, secondAt, nodeAt, nodesAt, threadAt, threadsFrom, startAt, startsAt, readSheet}
+use Rattle.sheet_reading.specs.Reading.{got, recordsFrom, countAt, setAt, nameBytes, nameAt, namesFrom, factsAt, premiseAt, ruleAt, rulesAt, kindAt, firstAt, secondAt, nodeAt, nodesAt, threadAt, threadsFrom, startAt, startsAt, readSheet}
 use Rattle.sheet_laws.specs.ReadingLaws.{read-admissible}
 use Rattle.moves.specs.Moves.{labels, stepsWithin, moves}
 use Rattle.comparison.specs.CallLimits.{limits}

@@ -21,7 +21,8 @@ module _ (s : Sheet) (wf : WellFormed s) (R : Conf → Conf → Type 0) (b : Sat
 
   answer : (x y : Conf) (a : ℕ) (x' : Conf) → R x y → Con s a → Moves s x a x' → Answer y a x'
   answer x y a x' r ca m =
-      b .reductions (with-added s a x) (with-added s a y) x' (b .upward x y r a ca) (transition-sound s (b .relation .over x y r .0) m)
+      b .reductions (with-added s a x) (with-added s a y) x' (b .upward x y r a ca)
+      (transition-sound s (b .relation .over x y r .0 .closed) m)
 
   -- x answers the answer, and so had a transition that dominates
   redundant : (x y : Conf) (a : ℕ) (x' : Conf) → Con s a → (u : Answer y a x') → (w : Origin s y a (u .0)) → (w .label ≡ a → ⊥)

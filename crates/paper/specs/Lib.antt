@@ -3,10 +3,12 @@ pub mod Tables
 pub mod Bisimulations
 pub mod LabelBridge
 pub mod Agreement
+pub mod Constrained
 pub mod SameThreads
 pub mod NodeSteps
 pub mod ThreadMoves
 pub mod Bridge
+pub mod ReadsOfSheet
 pub mod Barbs
 pub mod Theorem3
 pub mod Bisimilarity
@@ -23,5 +25,6 @@ pub mod Algorithm
 pub mod AlgorithmLaws
 pub mod Proposition2
 pub mod Theorem2
+pub mod TermSets
 pub mod Figure2
 pub mod Examples

@@ -48,7 +48,7 @@ module _ (s : Sheet) where
   from-parallel (LR3-left {p' = p'} r) = inl (p', r, refl)
   from-parallel (LR3-right {q' = q'} r) = inr (q', r, refl)
 
-  from-choice : {p q t : Term} {d a d' : ℕ} → Transition s (choice p q) d a t d' → Transition s p d a t d' ⊎ Transition s q d a t d'
+  pub from-choice : {p q t : Term} {d a d' : ℕ} → Transition s (choice p q) d a t d' → Transition s p d a t d' ⊎ Transition s q d a t d'
   from-choice (LR4-left r) = inl r
   from-choice (LR4-right r) = inr r
 

@@ -32,7 +32,7 @@ use Rattle.paper.specs.Terms.{Conf, Reads}
 use Rattle.paper.specs.Bisimulations.{SaturatedBarbedBisimilar}
 use Rattle.paper.specs.Bisimilarity.{saturated-agrees}
 use Rattle.paper.specs.Algorithm.{Starred, Partition}
-use Rattle.paper.specs.AlgorithmLaws.{SeedsAgree, partition-round, starred-member, member-starred, readingOf, finite-members}
+use Rattle.paper.specs.AlgorithmLaws.{SeedsAgree, partition-round, starred-member, member-starred, readingOf, reads-one, finite-members}
 
 -- What the algorithm does with the seeds, where `set` is the list of members that it works on.
 pub record Ends (s : Sheet) (seeds set : List Configuration) : Type 1 where
@@ -67,6 +67,9 @@ limitsOf ps = record { members = length ps; threads = threadCount ps; moves = 0 
 -- blocks are those of ∼sb.
 pub record EndsAs (s : Sheet) (starts : List Conf) : Type 1 where
   pub round : ℕ
+  -- it is below the number of members, those counted once that differ in order and 0 only: below the length of every list
+  -- that has what each of them reads as
+  pub few : (ps : List Configuration) → ((x : Conf) → Starred s starts x → List·Memᴰ (readingOf s x) ps) → round < length ps
   pub equal : (x y : Conf) → Starred s starts x → Starred s starts y → Partition s round x y → Partition s (suc round) x y
   pub first : (m : ℕ) → m < round
       → ((x y : Conf) → Starred s starts x → Starred s starts y → Partition s m x y → Partition s (suc m) x y) → ⊥
@@ -101,6 +104,13 @@ module _ (s : Sheet) (wf : WellFormed s) (seeds : List Configuration) (of : (p :
       }
 
   -- ---- a set that is finite fits some limits
+  -- the set that is worked on is no longer than a list that has all of it
+  explored-few : (l : Limits) (ps : List Configuration)
+      → ((p : Configuration) → List·Memᴰ p (explored s l seeds) → List·Memᴰ p ps) → length (explored s l seeds) ≤ length ps
+  explored-few l ps inside =
+      let set : List Configuration = explored s l seeds in
+      distinct-length set ps (ascends-distinct configurationOrder set (explored-ascends s l seeds)) inside
+
   finite-within : (ps : List Configuration) → ((p : Configuration) → Member (transitions s) seeds p → List·Memᴰ p ps)
       → over (limitsOf ps) (explored s (limitsOf ps) seeds) ≡ false
   finite-within ps all =
@@ -116,12 +126,7 @@ module _ (s : Sheet) (wf : WellFormed s) (seeds : List Configuration) (of : (p :
       members : Tested (ltb (length ps) (length set)) → ltb (length ps) (length set) ≡ false
       members (fails e) = e
       members (passes e) =
-          absurd (omega (
-            arith,
-            ltb-true (length ps) (length set) e,
-            distinct-length set ps
-                (ascends-distinct configurationOrder set (explored-ascends s (limitsOf ps) seeds)) inside,
-          ))
+          absurd (omega (arith, ltb-true (length ps) (length set) e, explored-few (limitsOf ps) ps inside))
 
       threads : Tested (any (λ p. ltb (threadCount ps) (length (p .threads))) set)
           → any (λ p. ltb (threadCount ps) (length (p .threads))) set ≡ false
@@ -141,6 +146,7 @@ module _ (s : Sheet) (wf : WellFormed s) (seeds : List Configuration) (of : (p :
       → ((p : Configuration) → Member (transitions s) seeds p → List·Memᴰ p ps) → EndsAs s starts
   algorithm-2 starts agree ps all = record {
     round = n;
+    few = λ qs holds. omega (arith, few-members, explored-few l qs (inside qs holds));
     equal = λ x y hx hy h.
         let p = member x hx in
         let q = member y hy in
@@ -163,12 +169,28 @@ module _ (s : Sheet) (wf : WellFormed s) (seeds : List Configuration) (of : (p :
       l : Limits
       l = limitsOf ps
 
+      set : List Configuration
+      set = explored s l seeds
+
       n : ℕ
-      n = resultOf (rounds s (explored s l seeds))
+      n = resultOf (rounds s set)
+
+      some : 1 ≤ length set
+      some = member-some set (explored-seeds s l seeds first-seed seeded)
 
       r : ResultRound s seeds n
-      r = result-round s wf l seeds of (finite-within ps all)
-          (member-some (explored s l seeds) (explored-seeds s l seeds first-seed seeded))
+      r = result-round s wf l seeds of (finite-within ps all) some
+
+      -- the round is below the number of members
+      few-members : n < length set
+      few-members = result-is s set wf (explored-closed s l seeds (finite-within ps all)) some .few
+
+      -- a list with what all of IS* reads as has the members
+      inside : (qs : List Configuration) → ((x : Conf) → Starred s starts x → List·Memᴰ (readingOf s x) qs)
+          → (p : Configuration) → List·Memᴰ p set → List·Memᴰ p qs
+      inside qs holds p m =
+          let x = member-starred s wf starts seeds agree (explored-member s l seeds p m) in
+          subst (λ (q : Configuration). List·Memᴰ q qs) (sym (reads-one s (x .0) p (x .2))) (holds (x .0) (x .1))
 
       in-sheet : (p : Configuration) → Member (transitions s) seeds p → OfSheet s p
       in-sheet = member-of (transitions s) (lawful s wf) seeds of

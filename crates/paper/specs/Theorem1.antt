@@ -1,5 +1,6 @@
 -- Source 001, Theorem 1: irredundant bisimilarity is saturated barbed bisimilarity. From ∼sb to ∼I without conditions; back
--- where it is decidable which transitions are redundant, and without that for the members of a comparison's set.
+-- where it is decidable which transitions are redundant, and without that for the members of a comparison's set. For all
+-- configurations the two are the same where every question is decided: a premise of `theorem-1-decided`, no axiom.
 use mathlib.Core.Logic.{_↔_}
 use mathlib.Core.List.{List, List·Memᴰ}
 use Prim.Native.Nat.{ℕ}
@@ -65,3 +66,10 @@ module _ (s : Sheet) (wf : WellFormed s) where
     -- Theorem 1 for them: ∼I is ∼sb.
     pub theorem-1 : IrredundantBisimilar s x y ↔ SaturatedBarbedBisimilar s x y
     theorem-1 = ((λ i. members-agree .1 (irredundant-members .0 i)), saturated-irredundant x y)
+
+  -- Theorem 1 for all configurations, where every question is decided
+  pub theorem-1-decided : ((A : Type 0) → Dec A) → (x y : Conf) → IrredundantBisimilar s x y ↔ SaturatedBarbedBisimilar s x y
+  theorem-1-decided decide x y = (
+    (λ i. irredundant-saturated (i .relation) (i .is-such) (λ z a t. decide (RedundantIn s (i .relation) z a t)) x y (i .contains)),
+    saturated-irredundant x y,
+  )

@@ -22,9 +22,11 @@ pub record United (ws : List ℕ) (at width : ℕ) (u v : List ℕ) : Type 0 whe
   pub both : (k : ℕ) → k < width → getD v k 0 ≡ bitOr (getD u k 0) (getD ws (at + k) 0)
   pub rest : (k : ℕ) → width ≤ k → getD v k 0 ≡ getD u k 0
 
--- the first r numbers of the list are the places below n of the set that begins at word 0, in ascending order
-pub record Listed (ws : List ℕ) (n : ℕ) (list : List ℕ) (r : ℕ) : Type 0 where
+-- the first r numbers of the list are the places below n of the set that begins at word 0, in ascending order; the others are those
+-- of the list before
+pub record Listed (ws : List ℕ) (n : ℕ) (before list : List ℕ) (r : ℕ) : Type 0 where
   pub few : r ≤ n
   pub ascends : (j k : ℕ) → j < k → k < r → getD list j 0 < getD list k 0
   pub inside : (j : ℕ) → j < r → (getD list j 0 < n) × InSet ws 0 (getD list j 0)
   pub all : (i : ℕ) → i < n → InSet ws 0 i → (j : ℕ) × (j < r) × (getD list j 0 ≡ i)
+  pub rest : (j : ℕ) → r ≤ j → getD list j 0 ≡ getD before j 0

@@ -36,8 +36,8 @@ pub fn unite(sets: &[u64], at: usize, width: usize, into: &mut [u64; 8])
 
 // The places below n of word k of the set, listed behind those of the words before it.
 fn list_word(set: &[u64], k: usize, n: usize, list: &mut [u16], from: usize) -> usize
-    requires { ⌜ (k < 8) × (k < length (now set)) × (n ≤ 512) × (n ≤ length (now list)) × Listed (now set) (min n (64 * k)) (now list) from ⌝ }
-    ensures { λ r. ⌜ Listed (now (set .entry)) (min n (64 * k + 64)) (now (list .exit)) r ⌝ }
+    requires { ⌜ (k < 8) × (k < length (now set)) × (n ≤ 512) × (n ≤ length (now list)) × Listed (now set) (min n (64 * k)) (now list) (now list) from ⌝ }
+    ensures { λ r. ⌜ (from ≤ r) × Listed (now (set .entry)) (min n (64 * k + 64)) (now (list .entry)) (now (list .exit)) r ⌝ }
 {
     let mut rest = set[k];
     let mut a = from;
@@ -52,10 +52,10 @@ fn list_word(set: &[u64], k: usize, n: usize, list: &mut [u16], from: usize) -> 
     a
 }
 
-// The places below n of a set of `width` words, listed in ascending order, and how many they are.
+// The places below n of a set of `width` words, listed in ascending order, and how many they are; the list behind them stays.
 pub fn list_places(set: &[u64; 8], width: usize, n: usize, list: &mut [u16; 512]) -> usize
     requires { ⌜ (width ≤ 8) × (n ≤ 512) × (n ≤ 64 * width) ⌝ }
-    ensures { λ r. ⌜ Listed (now (set .entry)) n (now (list .exit)) r ⌝ }
+    ensures { λ r. ⌜ Listed (now (set .entry)) n (now (list .entry)) (now (list .exit)) r ⌝ }
 {
     let mut a: usize = 0;
     let mut k: usize = 0;

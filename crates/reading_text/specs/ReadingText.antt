@@ -7,7 +7,7 @@ use lib.ListN.{length, getD}
 use Rattle.list_laws.specs.Tabulate.{tabulate-length}
 use Rattle.printed_lines.specs.Lines.{line, readWord, refusedWord}
 use Rattle.sheets.specs.Sheet.{Sheet}
-use Rattle.sheets.specs.Reading.{Reading, got, refused}
+use Rattle.sheet_reading.specs.Reading.{Reading, got, refused}
 use Rattle.set_closure.specs.RuleTable.{ruleIn}
 use Rattle.sheet_types.specs.HeldSheet.{nodeIn, configuration, noConfiguration, sheetOf}
 use Rattle.sheet_types.specs.declared.Sheet as held

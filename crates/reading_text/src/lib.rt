@@ -1,7 +1,7 @@
 // The line that is printed of a sheet: its counts, or its refusal.
 use sheet_types::Section;
 ghost use mathlib.Core.List.{[], _∷_};
-ghost use Rattle.sheets.specs.Reading.{readChoice};
+ghost use Rattle.sheet_reading.specs.Reading.{readChoice};
 ghost use Rattle.text.specs.Slices.{Written};
 ghost use Rattle.reading_text.specs.ReadingText.{readingLine};
 

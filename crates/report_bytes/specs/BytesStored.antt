@@ -15,7 +15,7 @@ use Rattle.text.specs.Slices.{Stored}
 use Rattle.text.specs.StoredText.{stored-then, stored-byte, stored-more, stored-length}
 use Rattle.packing.specs.Packing.{eightBytes}
 use Rattle.packing.specs.PackingLaws.{packed-count}
-use Rattle.comparison.specs.Report.{wordBytes}
+use Rattle.sheets.specs.SheetBytes.{wordBytes}
 use Rattle.report_bytes.specs.ReportLayout.{sideIn, labelIn, targetIn, replyIn, memberBytesAt, membersPart, stepBytesAt, trailPart, heldBytes}
 use Rattle.report_bytes.specs.ReportInSlice.{PackedAt}
 use Rattle.work_layout.specs.WorkLayout.{membersAt}

@@ -6,7 +6,8 @@ use Prim.Native.Nat.{ℕ, _+_, _*_, _/_, _%_, _<_}
 use lib.ListN.{length, getD, drop}
 use Rattle.list_laws.specs.Tabulate.{tabulate}
 use Rattle.lists.specs.Lists.{concatMap}
-use Rattle.comparison.specs.Report.{wordBytes, memberBytes}
+use Rattle.sheets.specs.SheetBytes.{wordBytes}
+use Rattle.comparison.specs.Report.{memberBytes}
 use Rattle.work_layout.specs.SetLayout.{memberAt}
 use Rattle.work_layout.specs.WorkLayout.{stepsAt}
 use Rattle.work_layout.specs.ClassLayout.{classIn}

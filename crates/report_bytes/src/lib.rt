@@ -6,7 +6,7 @@ ghost use mathlib.Core.List.{_++_};
 ghost use Prim.Native.Nat.{_+_, _*_, _≤_, _<_};
 ghost use lib.ListN.{length, take, drop};
 ghost use Rattle.packing.specs.Packing.{eightBytes};
-ghost use Rattle.comparison.specs.Report.{wordBytes};
+ghost use Rattle.sheets.specs.SheetBytes.{wordBytes};
 ghost use Rattle.text.specs.Slices.{Stored};
 ghost use Rattle.report_bytes.specs.ReportLayout.{sideIn, memberBytesAt, membersPart, stepBytesAt, trailPart, heldBytes};
 ghost use Rattle.report_bytes.specs.ReportInSlice.{PackedAt, MembersHeld, StepsHeld, ReportHeld};

@@ -7,13 +7,13 @@ use lib.ListN.{length, getD, take, drop, length-append, length-drop}
 use lib.Seq.{getD-drop, drop-drop, take-at, drop-append-seam}
 use Rattle.list_laws.specs.TabulateLaws.{part-tabulate}
 use Rattle.sheets.specs.SheetLimits.{maxThreads}
-use Rattle.sheets.specs.Reading.{word}
+use Rattle.sheets.specs.SheetBytes.{word, wordBytes}
 use Rattle.sheets.specs.Sheet.{Configuration}
 use Rattle.comparison.specs.CallLimits.{noReply}
 use Rattle.comparison.specs.Classes.{placeOf, sameConfiguration}
 use Rattle.comparison_laws.specs.ClassLaws.{position-le}
 use Rattle.comparison.specs.Trail.{Side, left, right, Reply, none, move, TrailStep}
-use Rattle.comparison.specs.Report.{wordBytes, memberBytes, stepBytes, sideByte, replyNumber}
+use Rattle.comparison.specs.Report.{memberBytes, stepBytes, sideByte, replyNumber}
 use Rattle.comparison.specs.Print.{memberLine, stepLine, sideLetter, replyText}
 use Rattle.report_text.specs.TextLaws.{reply-some}
 use Rattle.report_text.specs.AnswerText.{threadCount, threadsIn, memberIn, classIn, memberEnd, memberText, letterOf, replyOf, stepText, stepEnd}

@@ -8,7 +8,7 @@ use Rattle.list_laws.specs.Tabulate.{tabulate}
 use Rattle.printed_lines.specs.Decimal.{decimal}
 use Rattle.printed_lines.specs.Lines.{space, lineFeed, field, line}
 use Rattle.sheets.specs.SheetLimits.{maxThreads}
-use Rattle.sheets.specs.Reading.{word}
+use Rattle.sheets.specs.SheetBytes.{word}
 use Rattle.sheets.specs.Sheet.{Configuration}
 use Rattle.comparison.specs.CallLimits.{noReply, limits}
 use Rattle.comparison.specs.Report.{SAME, DIFF}

@@ -6,7 +6,7 @@ use Prim.Native.Nat.{ℕ, _+_, _*_, _≤_}
 use lib.ListN.{length, take, drop}
 use Rattle.printed_lines.specs.Lines.{line}
 use Rattle.comparison.specs.Report.{Verdict, SAME, DIFF, Report, reportBytes, reportLength}
-use Rattle.comparison.specs.Frame.{reported}
+use Rattle.comparison.specs.Outcome.{reported}
 use Rattle.comparison.specs.Print.{printed}
 use Rattle.answer_laws.specs.Fitting.{Fitting}
 use Rattle.text.specs.Slices.{Stored}

@@ -12,8 +12,9 @@ use Rattle.printed_lines.specs.Lines.{line}
 use Rattle.sheets.specs.Sheet.{Configuration}
 use Rattle.comparison.specs.Classes.{placeOf, classOf}
 use Rattle.comparison.specs.Trail.{TrailStep, left, none}
-use Rattle.comparison.specs.Report.{Verdict, SAME, DIFF, Report, wordBytes, memberBytes, stepBytes, reportBytes, reportLength}
-use Rattle.comparison.specs.Frame.{reported}
+use Rattle.sheets.specs.SheetBytes.{wordBytes}
+use Rattle.comparison.specs.Report.{Verdict, SAME, DIFF, Report, memberBytes, stepBytes, reportBytes, reportLength}
+use Rattle.comparison.specs.Outcome.{reported}
 use Rattle.comparison.specs.Print.{verdictWord, configurationsWord, trailWord, memberLine, memberLines, stepLine, printed}
 use Rattle.answer_laws.specs.Fitting.{Fitting}
 use Rattle.answer_laws.specs.MemberPlaces.{place-of-member}

@@ -6,7 +6,7 @@ ghost use Prim.Native.Nat.{_+_, _*_, _≤_, _<_, min};
 ghost use lib.ListN.{length, getD};
 ghost use Rattle.printed_lines.specs.Decimal.{decimal};
 ghost use Rattle.printed_lines.specs.Lines.{field, line};
-ghost use Rattle.sheets.specs.Reading.{word};
+ghost use Rattle.sheets.specs.SheetBytes.{word};
 ghost use Rattle.comparison.specs.Print.{plus, moreThreads, threadsText};
 ghost use Rattle.text.specs.Slices.{Stored};
 ghost use Rattle.report_text.specs.AnswerText.{countIn, threadCount, threadsIn, memberText, letterOf, replyOf, stepText, stepsText, wordOf};

@@ -36,7 +36,8 @@ pub record LinesKept (sheet : Sheet) (set : List Configuration) (numbers w ws : 
 abbrev pub InList : List ℕ → ℕ → ℕ → Type 0
 InList list k i = (j : ℕ) × (j < k) × (getD list j 0 ≡ i)
 
--- v and vs came from w and ws: the members at the first k places of the list are ready, those that were ready stay so
+-- v and vs came from w and ws: the members at the first k places of the list are ready, those that were ready stay so. Free: what the sets
+-- have beside those that are looked at, and the lines of members that are not ready.
 pub record SetLined (w ws : List ℕ) (width n : ℕ) (list : List ℕ) (k : ℕ) (v vs : List ℕ) : Type 0 where
   pub only : LinedOnly w v
   pub shape : Shape v n

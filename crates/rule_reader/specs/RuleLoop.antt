@@ -6,7 +6,7 @@ use native.Mathlib.Omega.{arith}
 use lib.ListN.{length}
 use Rattle.list_laws.specs.Tabulate.{tabulate-none}
 use Rattle.stores.specs.Stores.{Rule}
-use Rattle.sheets.specs.Reading.{Reading, got, ruleAt, recordsFrom}
+use Rattle.sheet_reading.specs.Reading.{Reading, got, ruleAt, recordsFrom}
 use Rattle.sheet_laws.specs.RecordLaws.{records-next}
 use Rattle.set_closure.specs.RuleTable.{ruleIn, rulesIn}
 use Rattle.set_closure.specs.RuleTableLaws.{putRule, rules-put}

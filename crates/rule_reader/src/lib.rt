@@ -8,7 +8,7 @@ ghost use Prim.Native.Nat.{_≤_};
 ghost use lib.ListN.{length};
 ghost use Rattle.sheet_types.specs.HeldSheet.{rulesRead};
 ghost use Rattle.sheets.specs.SheetLimits.{maxFacts, maxRules};
-ghost use Rattle.sheets.specs.Reading.{recordsFrom, ruleAt, rulesAt};
+ghost use Rattle.sheet_reading.specs.Reading.{recordsFrom, ruleAt, rulesAt};
 
 // n rules.
 fn rules_from(s: &[u8], facts: u16, n: u16, at: usize) -> RulesRead
@@ -39,7 +39,7 @@ fn rules_from(s: &[u8], facts: u16, n: u16, at: usize) -> RulesRead
     }
 }
 
-// The rules, after their count.
+// The rules, after their count. Beside a refusal the arrays are free.
 pub fn rules_at(s: &[u8], facts: u16, at: usize) -> RulesRead
     requires { ⌜ (at ≤ length (now s)) × (facts ≤ maxFacts) ⌝ }
     ensures { λ r. ⌜ rulesRead r ≡ rulesAt facts (now (s .entry)) at ⌝ }

@@ -1,10 +1,8 @@
 -- What the report on a set in the work slice returns and leaves in both slices.
 use mathlib.Core.Path.{_≡_}
-use mathlib.Core.Bool.{Bool, true, false, cond}
 use mathlib.Core.List.{List, List·Memᴰ}
-use Prim.Native.Nat.{ℕ, _-_, _≤_}
+use Prim.Native.Nat.{ℕ, _≤_}
 use lib.ListN.{length}
-use lib.Dec.{eqb}
 use Rattle.list_laws.specs.Frames.{SameOutside}
 use Rattle.lists.specs.Lists.{Ascends}
 use Rattle.sheets.specs.Sheet.{Configuration, Sheet}
@@ -15,18 +13,12 @@ use Rattle.sheet_types.specs.HeldSheet.{configuration}
 use Rattle.work_layout.specs.SetLayout.{SetHeld}
 use Rattle.comparison_laws.specs.RoundLaws.{ClosedList}
 use Rattle.comparison.specs.Report as spec
-use Rattle.comparison.specs.Report.{Verdict, SAME, DIFF, reportOn, reportLength}
-use Rattle.comparison.specs.Frame.{reported, refusal}
-use Rattle.comparison.specs.Call.{Compares, inRoom, answerAfter}
-use Rattle.answers.specs.declared.Reported.{Reported}
+use Rattle.comparison.specs.Report.{Verdict, SAME, DIFF, reportOn, reportLength, Compares}
+use Rattle.comparison.specs.Outcome.{reported, refusal}
+use Rattle.comparison.specs.Call.{inRoom, answerAfter}
 use Rattle.answers.specs.declared.Answer.{Answer}
 use Rattle.answers.specs.Returned.{returned}
 use Rattle.work_layout.specs.WorkLayout.{workEnd}
-
--- the verdict on two members that are first separated in round `apart` of `last` rounds, and the round that goes with it
-abbrev pub verdictOn : ℕ → ℕ → ℕ → ℕ → ℕ → Reported
-verdictOn apart last left right size =
-    record { same = eqb apart last; round = cond (eqb apart last) (last - 1) apart; left = left; right = right; length = size }
 
 -- A closed set in its order stands in the slice, and has both starts.
 pub record StartsHeld (sheet : Sheet) (set : List Configuration) (w : List ℕ) (n m : ℕ) (p q : Configuration) : Type 0 where

@@ -23,12 +23,12 @@ use Rattle.comparison.specs.Classes.{placeOf}
 use Rattle.comparison.specs.Rounds.{classes, rounds, resultOf, apartIn}
 use Rattle.comparison.specs.Trail.{Side, left, right, none, TrailStep, trail}
 use Rattle.comparison.specs.Report as spec
-use Rattle.comparison.specs.Report.{SAME, DIFF, sideByte, reportOn, reportBytes, reportLength}
-use Rattle.comparison.specs.Frame.{reported, refusal}
-use Rattle.comparison.specs.Call.{Compares, answerAfter}
+use Rattle.comparison.specs.Report.{SAME, DIFF, sideByte, reportOn, reportBytes, reportLength, Compares}
+use Rattle.comparison.specs.Outcome.{reported, refusal}
+use Rattle.comparison.specs.Call.{answerAfter}
 use Rattle.kept_classes.specs.ClassesPresent.{present-alike}
 use Rattle.kept_classes.specs.RoundLayout.{same-set-low, held-found, held-place, held-count}
-use Rattle.dominators.specs.FoundMembers.{FoundAt, held-ordered}
+use Rattle.dominators.specs.FoundMembers.{FoundAt, found-there, held-ordered}
 use Rattle.class_splits.specs.ClassedPlaces.{classed-count, classed-same}
 use Rattle.class_rounds.specs.RoundAtHand.{nobody, TogetherHeld, SetReady}
 use Rattle.class_rounds.specs.RoundsDone.{Ready, RoundsHeld, Refined, ready-same}
@@ -37,11 +37,12 @@ use Rattle.separations.specs.ReportClasses.{NumberReady, Renumbered}
 use Rattle.report_bytes.specs.ReportLayout.{sideIn, heldBytes}
 use Rattle.report_bytes.specs.ReportInSlice.{StepNumbers, stepIn, stepNumbers, ReportHeld, Agrees}
 use Rattle.report_bytes.specs.ReportInSliceLaws.{held-report}
-use Rattle.trail_search.specs.TrailLayout.{apartAt, TrailHeld, BirthsHeld, Followable}
+use Rattle.telling_moves.specs.TrailLayout.{apartAt, TrailHeld, BirthsHeld, Followable}
 use Rattle.trail_search.specs.FollowedTrail.{Trailed}
 use Rattle.answers.specs.declared.Answer.the-variants.{Report, Refused}
 use Rattle.answers.specs.Returned.{isSame, returnedOf, returned}
-use Rattle.set_report.specs.ReportMade.{verdictOn, StartsHeld, ReportReady, outcomeOn, ReportMade}
+use Rattle.verdicts.specs.Verdicts.{verdictOn}
+use Rattle.set_report.specs.ReportMade.{StartsHeld, ReportReady, outcomeOn, ReportMade}
 use Rattle.work_layout.specs.WorkLayout.{workEnd, memberRoom, classesAt, birthsAt, stepsAt, stepsEnd}
 use Rattle.work_layout.specs.ClassLayout.{classIn, classesIn, bornIn, fromIn}
 
@@ -93,7 +94,7 @@ module _ {sheet : Sheet} {set : List Configuration} {w : List ℕ} {n m r count 
       → (i < n) × (memberAt w i ≡ y) × (placeOf set y ≡ i)
   member-found y k x i e f =
       let s = H .ready .held in
-      let z = f .found (held-ordered s (H .ready .ascends)) (e .0)
+      let z = found-there f (held-ordered s (H .ready .ascends)) (e .0)
       (subst (λ (l : List Configuration). List·Memᴰ (standsFor x) l) (sym (s .members))
       (subst (λ (c : Configuration). List·Memᴰ c set) (sym (e .1)) k)) in
       let same : memberAt w i ≡ y = z .1 ∙ e .1 in (

@@ -1,33 +1,8 @@
 // The report on a set that stands in the work slice: rounds, verdict, trail and answer bytes.
 use answers::Answer;
-use answers::Reported;
 use sheet_types::Configuration;
-ghost use mathlib.Core.Path.{_≡_};
-ghost use Prim.Native.Nat.{_<_};
-ghost use Rattle.set_report.specs.ReportMade.{verdictOn, ReportReady, ReportMade};
-
-// The verdict on two members that are first separated in round `apart` of `last` rounds.
-fn verdict_on(apart: usize, last: usize, left: usize, right: usize, length: usize) -> Reported
-    requires { ⌜ 0 < last ⌝ }
-    ensures { λ r. ⌜ r ≡ verdictOn apart last left right length ⌝ }
-{
-    if apart == last {
-        return Reported {
-            same: true,
-            round: last - 1,
-            left,
-            right,
-            length,
-        };
-    }
-    Reported {
-        same: false,
-        round: apart,
-        left,
-        right,
-        length,
-    }
-}
+use verdicts::verdict_on;
+ghost use Rattle.set_report.specs.ReportMade.{ReportReady, ReportMade};
 
 // The report on the set of n members with m moves in the work slice, for the starts p and q; 22 where the answer slice is
 // shorter than it.

@@ -6,7 +6,7 @@ ghost use Prim.Native.Nat.{_+_, _≤_, _<_};
 ghost use lib.ListN.{length};
 ghost use Rattle.sheet_types.specs.HeldSheet.{answer};
 ghost use Rattle.sheets.specs.SheetLimits.{maxFacts, nameLength};
-ghost use Rattle.sheets.specs.Reading.{byteAt, wordAt, countAt, setAt, premiseAt, kindAt, firstAt, secondAt, threadAt, printable, nameBytes, nameAt, namesFrom, factsAt};
+ghost use Rattle.sheet_reading.specs.Reading.{byteAt, wordAt, countAt, setAt, premiseAt, kindAt, firstAt, secondAt, threadAt, printable, nameBytes, nameAt, namesFrom, factsAt};
 ghost use Rattle.sheet_laws.specs.NodeFields.{unusedAt, belowAt};
 
 const NAME_LENGTH: usize = 8;

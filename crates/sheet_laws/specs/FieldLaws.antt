@@ -9,8 +9,9 @@ use lib.ListN.{length, getD}
 use lib.Dec.{eqb, leb, ltb}
 use borrow.Author.Tests.{ltb-false, leb-false, eqb-true, eqb-false, not-false, ne-eqb}
 use Rattle.list_laws.specs.TestLaws.{or-false}
-use Rattle.sheets.specs.SheetLimits.{maxFacts, nameLength}
-use Rattle.sheets.specs.Reading.{got, refused, refusedIf, byteAt, wordAt, word, countAt, setAt, premiseAt, maxKind, kindAt, firstAt, secondAt, threadAt, printable, nameBytes, nameAt, namesFrom, factsAt}
+use Rattle.sheets.specs.SheetLimits.{maxFacts, nameLength, maxKind}
+use Rattle.sheets.specs.SheetBytes.{word}
+use Rattle.sheet_reading.specs.Reading.{got, refused, refusedIf, byteAt, wordAt, countAt, setAt, premiseAt, kindAt, firstAt, secondAt, threadAt, printable, nameBytes, nameAt, namesFrom, factsAt}
 use Rattle.sheet_laws.specs.NodeFields.{unusedAt, belowAt}
 use Rattle.sheet_laws.specs.Gets.{Gets, gets-less, got-gets, checked-gets, then-gets, then-checked-gets}
 

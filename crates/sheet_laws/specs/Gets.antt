@@ -4,7 +4,7 @@ use mathlib.Core.Bool.{Bool, true, false}
 use mathlib.Core.List.{List, [], _∷_, _++_}
 use Prim.Native.Nat.{ℕ, zero, suc}
 use native.Mathlib.Omega.{arith}
-use Rattle.sheets.specs.Reading.{Reading, got, refused, andThen, refusedIf, recordsFrom}
+use Rattle.sheet_reading.specs.Reading.{Reading, got, refused, andThen, refusedIf, recordsFrom}
 
 pub record Gets {A : Type 0} (P : A → ℕ → Type 0) (r : Reading A) : Type 0 where
   pub holds : (v : A) (next : ℕ) → r ≡ got v next → P v next

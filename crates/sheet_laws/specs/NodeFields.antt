@@ -9,7 +9,7 @@ use lib.Dec.{ltb}
 use Rattle.stores.specs.Stores.{Rule}
 use Rattle.sheets.specs.SheetLimits.{maxThreads}
 use Rattle.sheets.specs.Sheet.{Node, opened}
-use Rattle.sheets.specs.Reading.{Reading, got, andThen, refusedIf, wordAt, unused, below, kindAt, firstAt, secondAt, nodeFrom, nodeAt}
+use Rattle.sheet_reading.specs.Reading.{Reading, got, andThen, refusedIf, wordAt, unused, below, kindAt, firstAt, secondAt, nodeFrom, nodeAt}
 use Rattle.sheet_laws.specs.RecordLaws.{then-regroup}
 
 -- a field that is not used

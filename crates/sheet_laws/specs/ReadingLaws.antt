@@ -1,6 +1,6 @@
 -- Laws of reading a sheet and a choice: each way that the reading goes; what every sheet that is read has, as document 01, "The
 -- sheet", says; and what follows of a well-formed sheet.
-use mathlib.Core.Path.{_≡_}
+use mathlib.Core.Path.{_≡_, refl}
 use mathlib.Core.List.{List}
 use Prim.Native.Nat.{ℕ, _≤_, _<_}
 use native.Mathlib.Omega.{arith}
@@ -12,7 +12,9 @@ use Rattle.stores.specs.Stores.{Rule, leastStore}
 use Rattle.store_laws.specs.StoreLaws.{least-store-empty}
 use Rattle.sheets.specs.SheetLimits.{longestSheet}
 use Rattle.sheets.specs.Sheet.{Node, stop, Configuration, Sheet, nodeOf}
-use Rattle.sheets.specs.Reading.{got, refused, factsAt, rulesAt, nodesAt, startsAt, readSheet, readChoice}
+use Rattle.sheets.specs.SheetBytes.{SheetIs}
+use Rattle.sheet_reading.specs.SheetRead.{sheet-reads}
+use Rattle.sheet_reading.specs.Reading.{got, refused, factsAt, rulesAt, nodesAt, startsAt, readSheet, readChoice}
 use Rattle.sheets.specs.WellFormed.{WellFormed, Admissible}
 use Rattle.sheet_laws.specs.Ranks.{OfParts, Part, Ranked, rankOf, parts-map}
 use Rattle.sheet_laws.specs.Gets.{Gets, itself-gets, got-gets, checked-gets, then-gets}
@@ -97,6 +99,10 @@ read-longest s sheet end e = sheet-gets s .holds sheet end e .longest
 pub read-admissible : (s : List ℕ) (sheet : Sheet) (end : ℕ) → readSheet s ≡ got sheet end → Admissible sheet
 read-admissible s sheet end e = sheet-gets s .holds sheet end e .admissible
 
+-- every byte string that is a sheet is such a one
+pub written-admissible : (s : List ℕ) (sheet : Sheet) → SheetIs s sheet → Admissible sheet
+written-admissible s sheet h = read-admissible s sheet (length s) (sheet-reads s .is-got sheet (length s) (h, refl))
+
 -- ---- the choice of two starts
 pub record ChoiceRead (s : List ℕ) (left right : ℕ) (sheet : Sheet) (end : ℕ) : Type 0 where
   pub read : readSheet s ≡ got sheet end
@@ -105,9 +111,9 @@ pub record ChoiceRead (s : List ℕ) (left right : ℕ) (sheet : Sheet) (end : �
 
 module _ (s : List ℕ) (left right : ℕ) where
   -- a choice that is read names starts of the sheet
-  pub choice-reads : (sheet : Sheet) (end : ℕ) → readChoice s left right ≡ got sheet end → ChoiceRead s left right sheet end
+  pub choice-read : (sheet : Sheet) (end : ℕ) → readChoice s left right ≡ got sheet end → ChoiceRead s left right sheet end
   unfolding readChoice
-  choice-reads =
+  choice-read =
       then-gets _ (ChoiceRead s left right) (readSheet s) _ (itself-gets (readSheet s)) (λ sheet end e.
       checked-gets _ (leb (length (sheet .starts)) left) 14 0 _ (λ l.
       checked-gets _ (leb (length (sheet .starts)) right) 14 1 _ (λ r.

@@ -4,7 +4,7 @@ use mathlib.Core.Path.{_≡_, refl, ap, _∙_}
 use mathlib.Core.List.{List, [], _∷_, _++_}
 use Prim.Native.Nat.{ℕ, suc, _+_, _-_, _≤_, _<_}
 use native.Mathlib.Omega.{arith}
-use Rattle.sheets.specs.Reading.{Reading, got, refused, andThen, recordsFrom}
+use Rattle.sheet_reading.specs.Reading.{Reading, got, refused, andThen, recordsFrom}
 
 -- ---- one field after another: what follows a value may be a part of its own
 pub then-regroup : {A B C : Type 0} (r : Reading A) (f : A → ℕ → Reading B) (g : A → ℕ → Reading C) (h : B → ℕ → Reading C)

@@ -7,9 +7,9 @@ use native.Mathlib.Omega.{arith}
 use lib.ListN.{length, getD}
 use lib.Dec.{eqb, leb, ltb}
 use Rattle.stores.specs.Stores.{Rule, closure}
-use Rattle.sheets.specs.SheetLimits.{maxFacts, maxRules, minNodes, maxNodes, minStarts, maxStarts, maxThreads, nameLength}
+use Rattle.sheets.specs.SheetLimits.{maxFacts, maxRules, minNodes, maxNodes, minStarts, maxStarts, maxThreads, nameLength, maxKind}
 use Rattle.sheets.specs.Sheet.{Node, Configuration, Sheet, opened, openedAll}
-use Rattle.sheets.specs.Reading.{Reading, got, refused, andThen, refusedIf, recordsFrom, byteAt, wordAt, countAt, setAt, below, unused, printable, nameBytes, nameAt, namesFrom, factsAt, premiseAt, ruleAt, rulesAt, maxKind, kindAt, firstAt, secondAt, nodeFrom, nodeAt, nodesAt, threadAt, threadsFrom, startAt, startsAt, readSheet, readChoice}
+use Rattle.sheet_reading.specs.Reading.{Reading, got, refused, andThen, refusedIf, recordsFrom, byteAt, wordAt, countAt, setAt, below, unused, printable, nameBytes, nameAt, namesFrom, factsAt, premiseAt, ruleAt, rulesAt, kindAt, firstAt, secondAt, nodeFrom, nodeAt, nodesAt, threadAt, threadsFrom, startAt, startsAt, readSheet, readChoice}
 
 -- a number of the table
 pub record Numbered (number : ℕ) : Type 0 where

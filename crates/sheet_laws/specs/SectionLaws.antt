@@ -16,7 +16,7 @@ use Rattle.stores.specs.Stores.{Rule, Constraint, closure}
 use Rattle.store_laws.specs.StoreLaws.{closure-constraint, conclusions-lt}
 use Rattle.sheets.specs.SheetLimits.{maxRules, minNodes, maxNodes, minStarts, maxStarts, maxThreads, ruleLength, nodeLength, startLength}
 use Rattle.sheets.specs.Sheet.{Node, stop, tell, ask, both, either, Configuration, nodeOf, opened, openedAll}
-use Rattle.sheets.specs.Reading.{Reading, got, refused, andThen, recordsFrom, countAt, setAt, premiseAt, ruleAt, rulesAt, kindAt, firstAt, secondAt, nodeFrom, nodeAt, nodesAt, threadAt, threadsFrom, startAt, startsAt}
+use Rattle.sheet_reading.specs.Reading.{Reading, got, refused, andThen, recordsFrom, countAt, setAt, premiseAt, ruleAt, rulesAt, kindAt, firstAt, secondAt, nodeFrom, nodeAt, nodesAt, threadAt, threadsFrom, startAt, startsAt}
 use Rattle.sheets.specs.WellFormed.{Process, RuleFits, NodeFits}
 use Rattle.sheet_laws.specs.Ranks.{Ranked, rankOf}
 use Rattle.sheet_laws.specs.OpeningLaws.{LowerNames, ranked-none, ranked-next, opening-prefix, opened-process}

@@ -7,7 +7,7 @@ use Rattle.list_laws.specs.Tabulate.{tabulate-length}
 use Rattle.set_closure.specs.RuleTable.{ruleIn, rulesIn}
 use Rattle.sheets.specs.SheetLimits.{maxRules}
 use Rattle.sheets.specs.Sheet as spec
-use Rattle.sheets.specs.Reading.{Reading, got, refused, readSheet, readChoice}
+use Rattle.sheet_reading.specs.Reading.{Reading, got, refused, readSheet, readChoice}
 use Rattle.sheet_laws.specs.ReadingLaws.{ChoiceRead, choice-of-read, choice-no-left, choice-no-right}
 use Rattle.sheet_types.specs.HeldSheet.{nodesIn, configuration, noConfiguration, sheetOf, sheetRead}
 use Rattle.sheet_types.specs.SectionLaws.{refused-with, refused-never, with-got}

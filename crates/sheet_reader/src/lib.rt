@@ -8,7 +8,7 @@ use sheet_types::Section;
 use sheet_types::Sheet;
 use sheet_types::SheetRead;
 ghost use mathlib.Core.Path.{_≡_};
-ghost use Rattle.sheets.specs.Reading.{readSheet, readChoice};
+ghost use Rattle.sheet_reading.specs.Reading.{readSheet, readChoice};
 ghost use Rattle.sheet_reader.specs.SheetFound.{SheetFound, unread};
 
 // This answer with an empty sheet beside it.

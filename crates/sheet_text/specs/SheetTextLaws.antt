@@ -4,7 +4,8 @@ use mathlib.Core.List.{List}
 use Prim.Native.Nat.{ℕ}
 use lib.ListN.{length}
 use Rattle.comparison.specs.CallLimits.{limits, workLength, reportRoom}
-use Rattle.comparison.specs.Call.{Compares, compare}
+use Rattle.comparison.specs.Report.{Compares}
+use Rattle.comparison.specs.Call.{compare}
 use Rattle.compare_call.specs.Compared.{Compared}
 use Rattle.answers.specs.declared.Answer.{Answer}
 use Rattle.outcome_text.specs.OutcomeText.{OutcomeWritten}

@@ -1,5 +1,5 @@
 -- Adding a constraint to a configuration that is held, by a table of closures.
-use mathlib.Core.Path.{_≡_, ap}
+use mathlib.Core.Path.{_≡_, ap, _∙_}
 use mathlib.Core.List.{List}
 use Prim.Native.Nat.{ℕ, _%_, _^_, _≤_, _<_}
 use lib.ListN.{getD}
@@ -21,3 +21,15 @@ pub joined-adds : (sheet : spec.Sheet) (n : ℕ) (table : List ℕ) (b : ℕ) (c
 joined-adds sheet n table b c t f small hb hc =
     ap (λ (s : ℕ). record { store = s; threads = configuration c .threads })
     (closure-at (sheet .rules) n table (bitOr b (c .store)) t (or-lt n b (c .store) hb hc) f small)
+
+-- What adding a constraint to c gives by a table; by one of the sheet's closures it has the joined store, closed.
+pub record AddedTo (table : List ℕ) (b : ℕ) (c r : Configuration) : Type 0 where
+  pub held : r ≡ joined table b c
+  pub adds : (sheet : spec.Sheet) (n : ℕ) → Closures (sheet .rules) 0 (2 ^ n) table → conclusions (sheet .rules) < 2 ^ n → 2 ^ n ≤ 65536 → b < 2 ^ n
+      → c .store < 2 ^ n → configuration r ≡ add sheet b (configuration c)
+
+pub joined-added : (table : List ℕ) (b : ℕ) (c r : Configuration) → r ≡ joined table b c → AddedTo table b c r
+joined-added table b c r e = record {
+  held = e;
+  adds = λ sheet n t f small hb hc. ap configuration e ∙ joined-adds sheet n table b c t f small hb hc;
+}

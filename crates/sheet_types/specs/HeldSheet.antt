@@ -9,7 +9,7 @@ use Rattle.list_laws.specs.Tabulate.{tabulate}
 use Rattle.stores.specs.Stores.{Rule}
 use Rattle.sheets.specs.Sheet.{Node, stop, tell, ask, both, either, opened}
 use Rattle.sheets.specs.Sheet as spec
-use Rattle.sheets.specs.Reading.{Reading, got, refused}
+use Rattle.sheet_reading.specs.Reading.{Reading, got, refused}
 use Rattle.set_closure.specs.RuleTable.{rulesIn}
 use Rattle.sheet_types.specs.declared.Section.{Section}
 use Rattle.sheet_types.specs.declared.Section.the-variants.{Got, Refused}

@@ -4,7 +4,7 @@ use mathlib.Core.Path.{_≡_, sym, ap, _∙_}
 use mathlib.Core.Bool.{Bool, true, false}
 use Prim.Native.Nat.{ℕ}
 use native.Mathlib.Omega.{arith}
-use Rattle.sheets.specs.Reading.{Reading, got, refused, andThen, refusedIf}
+use Rattle.sheet_reading.specs.Reading.{Reading, got, refused, andThen, refusedIf}
 use Rattle.sheet_types.specs.declared.Section.{Section}
 use Rattle.sheet_types.specs.declared.Section.the-variants.{Got, Refused}
 use Rattle.sheet_types.specs.HeldSheet.{answer, answerWith}

@@ -7,7 +7,7 @@ ghost use lib.Bits.{bitOr};
 ghost use Rattle.moves.specs.Orders.{configurationBefore};
 ghost use Rattle.packing.specs.Packing.{standsFor, PackedIn};
 ghost use Rattle.sheet_types.specs.HeldSheet.{configuration};
-ghost use Rattle.sheet_types.specs.AddedStore.{joined};
+ghost use Rattle.sheet_types.specs.AddedStore.{AddedTo};
 
 // What reading a field or a section gives: a value and the place after it, or the refusal's number and place.
 pub enum Section {
@@ -36,7 +36,7 @@ impl Configuration {
     // A constraint added: the configuration with the joined store, closed by the table of closures.
     pub fn add(mut self, table: &[u32], b: u16) -> Configuration
         requires { ⌜ bitOr b (self .store) < length (now table) ⌝ }
-        ensures { λ r. ⌜ r ≡ joined (now (table .entry)) b self ⌝ }
+        ensures { λ r. ⌜ AddedTo (now (table .entry)) b self r ⌝ }
     {
         let sum = b | self.store;
         self.store = closure_table::closure_at(table, sum);

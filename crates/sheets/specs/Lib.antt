@@ -1,5 +1,6 @@
 pub mod Refusals
 pub mod SheetLimits
 pub mod Sheet
-pub mod Reading
+pub mod SheetBytes
+pub mod KnownBytes
 pub mod WellFormed

@@ -52,3 +52,7 @@ opened ns k = openWithin (length ns) ns k
 -- The threads that a list of nodes opens to, in ascending order, repeats kept.
 abbrev pub openedAll : List Node → List ℕ → List ℕ
 openedAll ns ks = sortUp (concatMap (opened ns) ks)
+
+-- start k of a sheet
+abbrev pub start : Sheet → ℕ → Configuration
+start sheet k = getD (sheet .starts) k (record { store = 0; threads = [] })

@@ -24,6 +24,10 @@ maxStarts = 16
 abbrev pub maxThreads : ℕ
 maxThreads = 8
 
+-- the highest kind of a node
+abbrev pub maxKind : ℕ
+maxKind = 4
+
 -- a name's bytes, and the bytes allowed in it
 abbrev pub nameLength : ℕ
 nameLength = 8

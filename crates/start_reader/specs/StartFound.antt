@@ -11,7 +11,7 @@ use Rattle.list_laws.specs.SortingLaws.{concatMap-next}
 use Rattle.stores.specs.Stores.{Rule, closure}
 use Rattle.sheets.specs.SheetLimits.{maxThreads, maxNodes}
 use Rattle.sheets.specs.Sheet.{Node, opened, openedAll}
-use Rattle.sheets.specs.Reading.{got, refused, setAt, countAt, threadsFrom, startAt}
+use Rattle.sheet_reading.specs.Reading.{got, refused, setAt, countAt, threadsFrom, startAt}
 use Rattle.sheet_laws.specs.SectionLaws.{start-no-threads, start-many, start-few}
 use Rattle.sheet_types.specs.HeldSheet.{openedIn, OpenedHeld, configuration, startRead}
 use Rattle.sheet_types.specs.SectionLaws.{refused-with, refused-never}

@@ -13,7 +13,7 @@ use Rattle.stores.specs.Stores.{Rule}
 use Rattle.sheets.specs.SheetLimits.{maxThreads, minStarts, maxStarts}
 use Rattle.sheets.specs.Sheet.{Node}
 use Rattle.sheets.specs.Sheet as spec
-use Rattle.sheets.specs.Reading.{Reading, got, refused, startAt, recordsFrom}
+use Rattle.sheet_reading.specs.Reading.{Reading, got, refused, startAt, recordsFrom}
 use Rattle.sheet_laws.specs.RecordLaws.{records-none, records-refused, records-next}
 use Rattle.sheet_types.specs.HeldSheet.{configuration, noConfiguration, startsIn, startsRead, answerWith}
 use Rattle.sheet_types.specs.SectionLaws.{refused-with, refused-never}

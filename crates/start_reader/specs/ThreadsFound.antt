@@ -9,7 +9,7 @@ use lib.ListN.{length, getD, set, take}
 use lib.Seq.{take-suc-set, getD-set-same, getD-set-other}
 use lib.Dec.{eqb}
 use borrow.Author.Tests.{eqb-true, eqb-false}
-use Rattle.sheets.specs.Reading.{Reading, got, refused, threadAt, threadsFrom, recordsFrom}
+use Rattle.sheet_reading.specs.Reading.{Reading, got, refused, threadAt, threadsFrom, recordsFrom}
 use Rattle.sheet_laws.specs.RecordLaws.{records-none, records-refused, records-next}
 use Rattle.sheet_types.specs.HeldSheet.{threadsRead}
 use Rattle.sheet_types.specs.SectionLaws.{refused-with, refused-never, with-got, with-refused}

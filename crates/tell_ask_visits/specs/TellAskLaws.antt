@@ -35,7 +35,7 @@ use Rattle.nodes_to_visit.specs.declared.NodeBeside as held
 use Rattle.nodes_to_visit.specs.declared.Beside.{Beside}
 use Rattle.nodes_to_visit.specs.NodesToVisit.{nodeBeside, PutBeside}
 use Rattle.ask_labels.specs.declared.Labelled.{Labelled}
-use Rattle.ask_labels.specs.AskLabels.{LabelsAre, part}
+use Rattle.label_search.specs.AskLabels.{LabelsAre, part}
 use Rattle.ask_labels.specs.LabelShelf.{ShelfRoom, LabelsGiven}
 use Rattle.ask_labels.specs.LabelShelfLaws.{sets-few}
 use Rattle.collected_moves.specs.declared.Caps.{Caps}

@@ -7,7 +7,7 @@ use lib.Bits.{bitOr}
 use Rattle.sheets.specs.Sheet.{Node, ask, nodeOf, opened}
 use Rattle.moves.specs.Orders.{Move}
 use Rattle.node_moves.specs.NodeMoves.{NodeBeside}
-use Rattle.ask_labels.specs.AskLabels.{part}
+use Rattle.label_search.specs.AskLabels.{part}
 use Rattle.walk_state.specs.declared.Basis.{Basis}
 use Rattle.walk_state.specs.declared.Walk.{Walk}
 use Rattle.walk_state.specs.declared.Walked.{Walked}

@@ -13,7 +13,7 @@ use Rattle.moves.specs.Orders.{Move}
 use Rattle.moves.specs.Moves.{add}
 use Rattle.comparison.specs.Promise.{PassesLimit}
 use Rattle.closure_table.specs.ClosureTable.{Closures}
-use Rattle.ask_labels.specs.AskLabels.{TableOf}
+use Rattle.label_search.specs.AskLabels.{TableOf}
 use Rattle.collected_moves.specs.declared.Running.{Running}
 use Rattle.collected_moves.specs.declared.Noted.{Noted}
 use Rattle.collected_moves.specs.declared.Noted.the-variants.{On, Over}

@@ -23,7 +23,7 @@ use Rattle.moves.specs.Orders.{Move}
 use Rattle.moves.specs.Moves.{add}
 use Rattle.comparison_laws.specs.SheetMoves.{conclusions-fit}
 use Rattle.closure_table.specs.ClosureTable.{closure-at, closures-agree}
-use Rattle.ask_labels.specs.AskLabels.{TableOf}
+use Rattle.label_search.specs.AskLabels.{TableOf}
 use Rattle.ask_labels.specs.LabelShelfLaws.{sets-few}
 use Rattle.sheet_types.specs.declared.Configuration.{Configuration}
 use Rattle.sheet_types.specs.HeldSheet.{configuration}

@@ -18,8 +18,8 @@ use Rattle.comparison_laws.specs.ResultLaws.{rounds-of}
 use Rattle.comparison_laws.specs.TrailLaws.{trail-length}
 use Rattle.kept_classes.specs.RoundLayout.{held-count}
 use Rattle.report_bytes.specs.ReportInSlice.{StepNumbers, stepIn, stepNumbers}
-use Rattle.trail_search.specs.TrailLayout.{apartAt, TrailHeld, Followable, rounds-few, trail-held-same, member-same, followable-same}
-use Rattle.trail_search.specs.Replies.{replyAt}
+use Rattle.telling_moves.specs.TrailLayout.{apartAt, TrailHeld, Followable, rounds-few, trail-held-same, member-same, followable-same}
+use Rattle.trail_replies.specs.Replies.{replyAt}
 use Rattle.trail_search.specs.TakenMove.{Takes, stepOf, otherOf, nextLeft, nextRight, Followed, takes-target, step-follows, trail-apart-never, trail-apart-first}
 use Rattle.work_layout.specs.WorkLayout.{workEnd, stepsAt, stepsEnd}
 

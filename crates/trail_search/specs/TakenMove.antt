@@ -20,10 +20,10 @@ use Rattle.comparison_laws.specs.RoundLaws.{together-yes}
 use Rattle.comparison_laws.specs.TrailLaws.{apart-le, trail-none}
 use Rattle.kept_classes.specs.RoundLayout.{held-in, held-place, number-in}
 use Rattle.report_bytes.specs.ReportInSlice.{StepNumbers, stepNumbers}
-use Rattle.trail_search.specs.PlaceTests.{First}
-use Rattle.trail_search.specs.TrailLayout.{apartAt, TrailHeld}
-use Rattle.trail_search.specs.TrailPlaces.{moveNumber, tellsAt, sharing-held, share-before, untold-none, untold-first}
-use Rattle.trail_search.specs.Replies.{replyAt, StandsFor, for-none, for-move, reply-stands}
+use Rattle.telling_moves.specs.PlaceTests.{First}
+use Rattle.telling_moves.specs.TrailLayout.{apartAt, TrailHeld}
+use Rattle.telling_moves.specs.TrailPlaces.{moveNumber, tellsAt, sharing-held, share-before, untold-none, untold-first}
+use Rattle.trail_replies.specs.Replies.{replyAt, StandsFor, for-none, for-move, reply-stands}
 
 -- The move that is taken at the pair of places p and q in round r: the left's first one that tells, else the right's. Where
 -- neither has one, the right's with number 0.

@@ -6,8 +6,8 @@ use Prim.Native.Nat.{ℕ, _+_, _-_, _%_, _≤_, _<_}
 use native.Mathlib.Omega.{arith}
 use lib.ListN.{length}
 use lib.Dec.{eqb}
-use Rattle.trail_search.specs.TrailLayout.{apartAt, Followable, PairFits, rounds-few}
-use Rattle.trail_search.specs.Replies.{replyAt}
+use Rattle.telling_moves.specs.TrailLayout.{apartAt, Followable, PairFits, rounds-few}
+use Rattle.trail_replies.specs.Replies.{replyAt}
 use Rattle.trail_search.specs.TakenMove.{Takes, otherOf, nextLeft, nextRight, takes-target}
 use Rattle.trail_search.specs.FollowedTrail.{Following, Trailed, stepStored, follows-now, following-alone, following-on}
 use Rattle.work_layout.specs.WorkLayout.{workEnd}

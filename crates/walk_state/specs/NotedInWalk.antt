@@ -20,7 +20,7 @@ use Rattle.member_table.specs.MemberTable.{membersIn, partAt}
 use Rattle.member_table.specs.TableInPart.{part-outside, kept-outside}
 use Rattle.ask_labels.specs.declared.Shelf.{Shelf}
 use Rattle.ask_labels.specs.LabelShelf.{Shelved}
-use Rattle.ask_labels.specs.LabelScanLaws.{table-agree}
+use Rattle.label_search.specs.LabelScanLaws.{table-agree}
 use Rattle.ask_labels.specs.LabelShelfLaws.{sets-few, shelved-agree}
 use Rattle.collected_moves.specs.declared.Caps.{Caps}
 use Rattle.collected_moves.specs.declared.Running.{Running}

@@ -22,7 +22,7 @@ use Rattle.node_moves.specs.NodeMoves.{NodeBeside, placedMoves}
 use Rattle.node_moves.specs.ThreadLaws.{sort-append-length}
 use Rattle.member_table.specs.MemberTable.{membersIn, partAt}
 use Rattle.member_table.specs.TableInPart.{part-outside, kept-outside}
-use Rattle.ask_labels.specs.LabelScanLaws.{table-agree}
+use Rattle.label_search.specs.LabelScanLaws.{table-agree}
 use Rattle.ask_labels.specs.LabelShelfLaws.{sets-few, SameShelf, shelved-agree}
 use Rattle.collected_moves.specs.CollectedMoves.{Grown, membersOf, movesOf}
 use Rattle.collected_moves.specs.CollectedFrames.{members-outside, moves-outside, collecting-outside, grown-outside}

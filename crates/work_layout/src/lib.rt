@@ -6,7 +6,7 @@ ghost use Prim.Native.Nat.{_≤_};
 ghost use lib.ListN.{length};
 ghost use Rattle.work_layout.specs.WorkLayout.{workEnd};
 ghost use Rattle.work_layout.specs.SetLayout.{memberAt, numbersAt, firstMove, moveTotal};
-ghost use Rattle.comparison.specs.Frame.{cleared};
+ghost use Rattle.comparison.specs.Outcome.{cleared};
 ghost use Rattle.work_layout.specs.ClassLayout.{classIn};
 
 // Numbers in the work slice that are used.

@@ -6,7 +6,7 @@ use native.Mathlib.Omega.{arith}
 use Rattle.sheets.specs.Sheet as spec
 use Rattle.sheet_types.specs.HeldSheet.{sheetOf}
 use Rattle.found_set.specs.FoundSet.{limitsOf}
-use Rattle.call_seeds.specs.ChoiceLaws.{seeds-are, seeds-of-sheet, seeds-few}
+use Rattle.call_seeds.specs.ChoiceLaws.{seeds-stored, seeds-are, seeds-of-sheet, seeds-few}
 use Rattle.call_frame.specs.Begun.{BegunAs}
 use Rattle.call_frame.specs.BegunLaws.{starts-are}
 use Rattle.call_frame.proofs.begin_choice.Statement.{statement}
@@ -32,14 +32,15 @@ begin-set-requires c κs =
     let start = c .before .before .before .before .before .before in
     let args = start .args in
     let choice = start .pre .1 in
-    let seeds = c .before .chosen-seeds in (
+    let seeds = c .before .chosen-seeds in
+    let are = seeds-stored (args .sheet .starts) (seeds .result) (args .left) (args .right) (omega (arith, seeds .ok)) (seeds .ensures) in (
       start .pre .0,
       choice .admissible,
       choice .opened,
       record {
         few = omega arith;
-        of-sheet = seeds-of-sheet (args .sheet) (args .left) (args .right) choice (seeds .result) (seeds .ensures);
-        threads = seeds-few (args .sheet) (args .left) (args .right) choice (seeds .result) (seeds .ensures);
+        of-sheet = seeds-of-sheet (args .sheet) (args .left) (args .right) choice (seeds .result) are;
+        threads = seeds-few (args .sheet) (args .left) (args .right) choice (seeds .result) are;
       },
     )
 
@@ -52,13 +53,14 @@ returns c =
     let args = start .args in
     let choice = start .pre .1 in
     let seeds = c .before .before .before .before .chosen-seeds in
+    let are = seeds-stored (args .sheet .starts) (seeds .result) (args .left) (args .right) (omega (arith, seeds .ok)) (seeds .ensures) in
     let begin = c .before .before .begin-set in
     let left = c .before .before .before .before .before .before .start-at in
     let right = c .before .before .before .before .before .start-at2 in
     record {
       begun =
           subst (λ (s : List spec.Configuration). BegunAs (limitsOf (args .caps)) (sheetOf (args .sheet)) s (args .work .now) (begin .last .0) (begin .result))
-          (seeds-are (args .sheet) (args .left) (args .right) choice (seeds .result) (seeds .ensures)) (begin .ensures);
+          (seeds-are (args .sheet) (args .left) (args .right) choice (seeds .result) are) (begin .ensures);
       starts =
           starts-are (args .sheet) (args .left) (args .right) choice
           (record { begun = begin .result; left = left .result; right = right .result }) (left .ensures) (right .ensures);

@@ -1,8 +1,12 @@
 -- The seeds are the starts with the first two places stored over.
 use borrow.Author.Needs.{needs}
+use mathlib.Core.Path.{ap₂}
 use mathlib.Core.List.{[]}
+use lib.ListN.{set}
 use native.Mathlib.Omega.{arith}
-use Rattle.call_seeds.specs.ChoiceLaws.{seeds-stored}
+use Rattle.list_laws.specs.ListPlaces.{getD-any}
+use Rattle.sheet_types.specs.declared.Configuration.{Configuration}
+use Rattle.sheet_types.specs.HeldSheet.{noConfiguration}
 use Rattle.call_seeds.proofs.chosen_seeds.Statement.{statement}
 use Rattle.call_seeds.proofs.chosen_seeds.Tie as tie
 
@@ -26,9 +30,10 @@ array-set-from-seeds-2 c = search needs
 
 returns : tie.Need-returns
 returns c =
-    let start = c .before .before in
-    seeds-stored (start .args .t1) (start .args .left) (start .args .right) (record { store = 0; count = 0; threads = [] }) (omega arith)
-    (start .pre .0) (start .pre .1)
+    let g = c .before .before .args in
+    let d : Configuration = record { store = 0; count = 0; threads = [] } in
+    ap₂ (λ (p q : Configuration). set (set (g .t1) 0 p) 1 q) (getD-any (g .t1) (g .left) d noConfiguration (omega arith))
+    (getD-any (g .t1) (g .right) d noConfiguration (omega arith))
 
 pub chosen-seeds-spec : {M : Type 1} → statement M
 chosen-seeds-spec =

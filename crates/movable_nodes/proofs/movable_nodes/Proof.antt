@@ -16,7 +16,7 @@ abbrev μ-loop : tie.MeasureT-loop
 μ-loop kinds firsts seconds n table₀ k₀ table k = n - k
 
 loop-holds : tie.Need-loop-holds Inv-loop μ-loop
-loop-holds c = (search needs, search needs, held-none _ _)
+loop-holds c = (search needs, search needs, held-none _ 64)
 
 element-copy-out-movable-by : tie.Need-element-copy-out-movable-by Inv-loop μ-loop
 element-copy-out-movable-by c = search needs

@@ -4,7 +4,7 @@ use native.Mathlib.Omega.{arith}
 use borrow.Author.Needs.{needs}
 use Rattle.set_closure.specs.RuleTable.{rulesIn}
 use Rattle.sheets.specs.SheetLimits.{minNodes, maxNodes}
-use Rattle.sheets.specs.Reading.{nodesAt}
+use Rattle.sheet_reading.specs.Reading.{nodesAt}
 use Rattle.sheet_types.specs.SectionLaws.{answer-got, got-then, refused-then}
 use Rattle.sheet_laws.specs.FieldLaws.{count-gets}
 use Rattle.node_reader.specs.NodesSoFar.{nodes-refused}

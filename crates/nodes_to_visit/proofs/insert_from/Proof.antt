@@ -1,11 +1,12 @@
 -- After i of the numbers are put in, the first n + i are the old ones with these i in their places, in ascending order.
-use lib.ListN.{length, take, drop}
+use lib.ListN.{length, getD, take, drop}
 use borrow.Author.Needs.{needs}
 use native.Mathlib.Omega.{arith}
 use Prim.Native.Nat.{_+_, _-_, _≤_}
 use mathlib.Core.Path.{_≡_}
 use Rattle.lists.specs.Lists.{NotFalling}
 use Rattle.list_laws.specs.SortingLaws.{insertAll, inserted-next}
+use Rattle.node_opening.specs.CarriedInsertion.{inserted-first}
 use Rattle.nodes_to_visit.proofs.insert_from.Statement.{statement}
 use Rattle.nodes_to_visit.proofs.insert_from.Tie as tie
 
@@ -44,7 +45,8 @@ loop-again : tie.Need-loop-again Inv-loop μ-loop
 loop-again c = let a = c .before .before .before .before .before .args in
     let l = c .before .before .before .loop in
     let next = inserted-next (take (a .n) (a .old)) (l .threads) (c .insert .result) (a .opened .now) (a .n) (l .i) (a .from)
-    (omega arith) (l .inv .2) (l .inv .3) (c .insert .ensures) in
+    (omega arith) (l .inv .2) (l .inv .3)
+    (inserted-first (l .threads) (c .insert .result) (a .n + l .i) (getD (a .opened .now) (a .from + l .i) 0) (omega arith) (c .insert .ensures)) in
     (omega arith, search needs, next .0, next .1)
 
 returns : tie.Need-returns Inv-loop μ-loop

@@ -11,10 +11,10 @@ use Rattle.nodes_to_visit.proofs.thread_beside.Statement.{statement}
 use Rattle.nodes_to_visit.proofs.thread_beside.Tie as tie
 
 abbrev Inv-loop : tie.InvT-loop
-Inv-loop e i threads₀ node j₀ threads j = (j ≤ 7) × Shifted threads₀ i j threads
+Inv-loop e i node threads₀ j₀ threads j = (j ≤ 7) × Shifted threads₀ i j threads
 
 abbrev μ-loop : tie.MeasureT-loop
-μ-loop e i threads₀ node j₀ threads j = 7 - j
+μ-loop e i node threads₀ j₀ threads j = 7 - j
 
 array-read-node : tie.Need-array-read-node Inv-loop μ-loop
 array-read-node c = search needs
@@ -23,7 +23,7 @@ cast-node : tie.Need-cast-node Inv-loop μ-loop
 cast-node c = search needs
 
 loop-holds : tie.Need-loop-holds Inv-loop μ-loop
-loop-holds c = (search needs, shifted-none (c .before .args .e .threads) (c .before .args .i))
+loop-holds c = (search needs, shifted-none (c .before .before .args .e .threads) (c .before .before .args .i))
 
 array-read-later : tie.Need-array-read-later Inv-loop μ-loop
 array-read-later c = search needs
@@ -47,7 +47,7 @@ loop-less : tie.Need-loop-less Inv-loop μ-loop
 loop-less c = search needs
 
 loop-again : tie.Need-loop-again Inv-loop μ-loop
-loop-again c = let a = c .before .before .before .before .args in
+loop-again c = let a = c .before .before .before .before .before .args in
     let l = c .before .before .loop in
     let long : length (a .e .threads) ≡ 8 = search needs in
     let put = c .later .ensures in (
@@ -60,7 +60,7 @@ sub-count : tie.Need-sub-count Inv-loop μ-loop
 sub-count c = search needs
 
 returns : tie.Need-returns Inv-loop μ-loop
-returns c = let a = c .before .before .before .before .args in
+returns c = let a = c .before .before .before .before .before .args in
     let l = c .before .before .loop in
     let long : length (a .e .threads) ≡ 8 = search needs in (
       ap₂ (λ (k : ℕ) (ts : List ℕ). record { node = k; threads = ts })

@@ -4,12 +4,12 @@ use mathlib.Core.Path.{_≡_, subst}
 use native.Mathlib.Omega.{arith}
 use borrow.Author.Needs.{needs}
 use Rattle.place_sets.specs.PlaceSets.{Listed}
-use Rattle.place_sets.specs.Listing.{listed-none}
+use Rattle.place_sets.specs.Listing.{listed-none, listed-on}
 use Rattle.place_sets.proofs.list_places.Statement.{statement}
 use Rattle.place_sets.proofs.list_places.Tie as tie
 
 abbrev Inv-loop : tie.InvT-loop
-Inv-loop set width n list₀ a₀ k₀ list a k = (k ≤ width) × Listed set (min n (64 * k)) list a
+Inv-loop set width n list₀ a₀ k₀ list a k = (k ≤ width) × Listed set (min n (64 * k)) list₀ list a
 
 abbrev μ-loop : tie.MeasureT-loop
 μ-loop set width n list₀ a₀ k₀ list a k = width - k
@@ -32,14 +32,18 @@ loop-again c =
     let k = c .before .before .before .before .loop .k in
     let w = c .list-word in
     let e : min (args .n) (64 * k + 64) ≡ min (args .n) (64 * (k + 1)) = omega arith in
-    (search needs, subst (λ (z : ℕ). Listed (args .set .now) z (w .last .1 .1 .1 .0) (w .result)) e (w .ensures))
+    let l = c .before .before .before .before .loop in (
+      search needs,
+      subst (λ (z : ℕ). Listed (args .set .now) z (args .list .now) (w .last .1 .1 .1 .0) (w .result)) e
+          (listed-on (l .inv .1) (w .ensures .0) (w .ensures .1)),
+    )
 
 returns : tie.Need-returns Inv-loop μ-loop
 returns c =
     let args = c .before .before .args in
     let l = c .before .loop in
     let e : min (args .n) (64 * l .k) ≡ args .n = omega arith in
-    subst (λ (z : ℕ). Listed (args .set .now) z (l .list) (l .a)) e (l .inv .1)
+    subst (λ (z : ℕ). Listed (args .set .now) z (args .list .now) (l .list) (l .a)) e (l .inv .1)
 
 pub list-places-spec : {M : Type 1} → statement M
 list-places-spec =

@@ -13,7 +13,7 @@ use Rattle.place_sets.proofs.list_word.Statement.{statement}
 use Rattle.place_sets.proofs.list_word.Tie as tie
 
 abbrev Inv-loop : tie.InvT-loop
-Inv-loop set k n list₀ from rest₀ a₀ list rest a = (rest < 2 ^ 64) × (length list ≡ length list₀) × Partly set n k rest list a
+Inv-loop set k n list₀ from rest₀ a₀ list rest a = (rest < 2 ^ 64) × (length list ≡ length list₀) × (from ≤ a) × Partly set n k rest list₀ list a
 
 abbrev μ-loop : tie.MeasureT-loop
 μ-loop set k n list₀ from rest₀ a₀ list rest a = rest
@@ -27,7 +27,7 @@ low c = lowest 64 (c .before .loop .rest) (omega arith) (c .before .loop .inv .0
 -- the listed places are no more than the numbers below the next one
 room : (c : tie.In-loop Inv-loop μ-loop)
     → c .before .loop .a ≤ 64 * c .before .before .before .args .k + trailingZeros 64 (c .before .loop .rest)
-room c = partly-room (c .before .loop .inv .2) (trailingZeros 64 (c .before .loop .rest)) (low c .1 .one)
+room c = partly-room (c .before .loop .inv .3) (trailingZeros 64 (c .before .loop .rest)) (low c .1 .one)
 
 mul-rest : tie.Need-mul-rest Inv-loop μ-loop
 mul-rest c = search needs
@@ -36,7 +36,7 @@ shared-slice-read-rest : tie.Need-shared-slice-read-rest Inv-loop μ-loop
 shared-slice-read-rest c = search needs
 
 loop-holds : tie.Need-loop-holds Inv-loop μ-loop
-loop-holds c = (c .shared-slice-known .given (c .before .args .k) .fits, refl, partly-first (c .before .pre .4))
+loop-holds c = (c .shared-slice-known .given (c .before .args .k) .fits, refl, omega arith, partly-first (c .before .pre .4))
 
 mul-i : tie.Need-mul-i Inv-loop μ-loop
 mul-i c = search needs
@@ -72,8 +72,9 @@ loop-again c =
     let o = low i in (
       omega (arith, and-le-r (l .rest) (l .rest - 1)),
       ⊎-elim (λ w. ap length (w .1) ∙ simp length-set (l .inv .1)) (λ w. ap length (w .1) ∙ l .inv .1) (c .if1 .came),
-      ⊎-elim (λ w. rw (w .1, w .2) (partly-put (l .inv .2) (o .1) (o .0) (w .0 .taken) (omega (arith, room i))))
-          (λ w. rw (w .1, w .2) (partly-past (l .inv .2) (o .1) (o .0) (w .0 .left)))
+      ⊎-elim (λ w. omega (arith, w .2)) (λ w. omega (arith, w .2)) (c .if1 .came),
+      ⊎-elim (λ w. rw (w .1, w .2) (partly-put (l .inv .3) (o .1) (o .0) (w .0 .taken) (omega (arith, room i))))
+          (λ w. rw (w .1, w .2) (partly-past (l .inv .3) (o .1) (o .0) (w .0 .left)))
           (c .if1 .came),
     )
 
@@ -84,8 +85,10 @@ returns : tie.Need-returns Inv-loop μ-loop
 returns c =
     let args = c .before .before .before .args in
     let l = c .before .loop in
-    let e : l .rest ≡ 0 = omega arith in
-    partly-last (subst (λ (r : ℕ). Partly (args .set .now) (args .n) (args .k) r (l .list) (l .a)) e (l .inv .2))
+    let e : l .rest ≡ 0 = omega arith in (
+      l .inv .2,
+      partly-last (subst (λ (r : ℕ). Partly (args .set .now) (args .n) (args .k) r (args .list .now) (l .list) (l .a)) e (l .inv .3)),
+    )
 
 pub list-word-spec : {M : Type 1} → statement M
 list-word-spec =

@@ -1,5 +1,5 @@
 -- `reading_line` writes the line of what `read_choice` gives, case by case.
-use Rattle.sheets.specs.Reading.{readChoice}
+use Rattle.sheet_reading.specs.Reading.{readChoice}
 use Rattle.reading_text.specs.ReadingText.{line-refused, line-read}
 use borrow.Author.Needs.{needs}
 use Rattle.reading_text.proofs.reading_line.Statement.{statement}

@@ -4,7 +4,7 @@ use Prim.Native.Nat.{ℕ, _+_}
 use mathlib.Core.Path.{ap}
 use borrow.Author.Needs.{needs}
 use Rattle.printed_lines.specs.Lines.{field}
-use Rattle.sheets.specs.Reading.{word}
+use Rattle.sheets.specs.SheetBytes.{word}
 use Rattle.comparison.specs.Print.{threadsText}
 use Rattle.text.specs.StoredText.{stored-then}
 use Rattle.report_text.specs.AnswerText.{threadsIn}

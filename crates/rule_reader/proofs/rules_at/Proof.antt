@@ -2,7 +2,7 @@
 use lib.ListN.{replicate}
 use Rattle.set_closure.specs.RuleTable.{rulesIn}
 use Rattle.sheets.specs.SheetLimits.{maxRules}
-use Rattle.sheets.specs.Reading.{rulesAt}
+use Rattle.sheet_reading.specs.Reading.{rulesAt}
 use Rattle.sheet_types.specs.SectionLaws.{answer-got, refused-with, refused-then, got-then}
 use Rattle.sheet_laws.specs.FieldLaws.{count-gets}
 use mathlib.Core.Path.{sym, _∙_}

@@ -1,7 +1,7 @@
 -- After i rules, those in memory and what is left to read give what the whole gives.
 use mathlib.Core.List.{[]}
 use lib.ListN.{length, replicate, length-set}
-use Rattle.sheets.specs.Reading.{got, recordsFrom}
+use Rattle.sheet_reading.specs.Reading.{got, recordsFrom}
 use Rattle.sheet_laws.specs.RecordLaws.{records-none, records-refused}
 use Rattle.sheet_types.specs.SectionLaws.{answer-got, answer-refused, refused-with}
 use Rattle.set_closure.specs.RuleTable.{rulesIn}

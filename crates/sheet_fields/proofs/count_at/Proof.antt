@@ -4,7 +4,7 @@ use mathlib.Core.Bool.{_||_}
 use lib.Dec.{ltb}
 use borrow.Author.Tests.{lt-ltb, le-ltb}
 use Rattle.list_laws.specs.TestLaws.{or-left, or-right, or-fails}
-use Rattle.sheets.specs.Reading.{countAt}
+use Rattle.sheet_reading.specs.Reading.{countAt}
 use Rattle.sheet_types.specs.SectionLaws.{same-then, wrong-then, right-then}
 use borrow.Author.Needs.{needs}
 use Rattle.sheet_fields.proofs.count_at.Statement.{statement}

@@ -1,6 +1,6 @@
 -- The count is handed on to the names.
 use Rattle.sheets.specs.SheetLimits.{maxFacts}
-use Rattle.sheets.specs.Reading.{factsAt}
+use Rattle.sheet_reading.specs.Reading.{factsAt}
 use Rattle.sheet_types.specs.SectionLaws.{answer-got, same-then, got-then}
 use Rattle.sheet_laws.specs.FieldLaws.{count-gets}
 use mathlib.Core.Path.{sym, _∙_}

@@ -2,7 +2,8 @@
 use lib.Dec.{ltb}
 use Rattle.sheet_types.specs.SectionLaws.{same-then, wrong-then, right-then}
 use borrow.Author.Tests.{lt-ltb, le-ltb}
-use Rattle.sheets.specs.Reading.{maxKind, kindAt}
+use Rattle.sheet_reading.specs.Reading.{kindAt}
+use Rattle.sheets.specs.SheetLimits.{maxKind}
 use borrow.Author.Needs.{needs}
 use Rattle.sheet_fields.proofs.kind_at.Statement.{statement}
 use Rattle.sheet_fields.proofs.kind_at.Tie as tie

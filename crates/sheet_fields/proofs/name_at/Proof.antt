@@ -2,7 +2,7 @@
 use lib.ListN.{length}
 use borrow.Author.Tests.{lt-ltb, le-ltb}
 use Rattle.sheets.specs.SheetLimits.{nameLength}
-use Rattle.sheets.specs.Reading.{nameAt}
+use Rattle.sheet_reading.specs.Reading.{nameAt}
 use native.Mathlib.Omega.{arith}
 use Prim.Native.Nat.{_+_, _≤_, _<_}
 use borrow.Author.Needs.{needs}

@@ -3,7 +3,7 @@ use lib.ListN.{getD}
 use mathlib.Core.Bool.{true, false}
 use borrow.Author.Tests.{not-true, not-false}
 use Rattle.sheets.specs.SheetLimits.{nameLength}
-use Rattle.sheets.specs.Reading.{nameBytes, printable}
+use Rattle.sheet_reading.specs.Reading.{nameBytes, printable}
 use Rattle.sheet_laws.specs.FieldLaws.{name-end, name-wrong, name-next}
 use borrow.Author.Needs.{needs}
 use native.Mathlib.Omega.{arith}

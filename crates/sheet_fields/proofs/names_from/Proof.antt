@@ -1,6 +1,6 @@
 -- After i names what is left to read gives what the whole gives.
 use lib.ListN.{length}
-use Rattle.sheets.specs.Reading.{namesFrom}
+use Rattle.sheet_reading.specs.Reading.{namesFrom}
 use Rattle.sheet_types.specs.HeldSheet.{answer}
 use Rattle.sheet_types.specs.SectionLaws.{answer-got, answer-refused}
 use Rattle.sheet_laws.specs.FieldLaws.{name-gets, names-none, names-refused, names-next}

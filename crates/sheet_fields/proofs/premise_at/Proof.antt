@@ -2,7 +2,7 @@
 use lib.Dec.{eqb}
 use Rattle.sheet_types.specs.SectionLaws.{same-then, wrong-then, right-then}
 use borrow.Author.Tests.{eq-eqb, ne-eqb}
-use Rattle.sheets.specs.Reading.{premiseAt}
+use Rattle.sheet_reading.specs.Reading.{premiseAt}
 use borrow.Author.Needs.{needs}
 use Rattle.sheet_fields.proofs.premise_at.Statement.{statement}
 use Rattle.sheet_fields.proofs.premise_at.Tie as tie

@@ -2,7 +2,7 @@
 use Rattle.sheet_fields.specs.AbsentFacts.{shifted-none, shifted-some}
 use lib.Dec.{leb}
 use Rattle.sheet_types.specs.SectionLaws.{same-then, wrong-then, right-then}
-use Rattle.sheets.specs.Reading.{setAt}
+use Rattle.sheet_reading.specs.Reading.{setAt}
 use Prim.Native.Nat.{_^_}
 use borrow.Author.Needs.{needs}
 use Rattle.sheet_fields.proofs.set_at.Statement.{statement}

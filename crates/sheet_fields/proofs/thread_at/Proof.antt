@@ -2,7 +2,7 @@
 use lib.Dec.{leb}
 use Rattle.sheet_types.specs.SectionLaws.{same-then, wrong-then, right-then}
 use borrow.Author.Tests.{le-leb, lt-leb}
-use Rattle.sheets.specs.Reading.{threadAt}
+use Rattle.sheet_reading.specs.Reading.{threadAt}
 use borrow.Author.Needs.{needs}
 use Rattle.sheet_fields.proofs.thread_at.Statement.{statement}
 use Rattle.sheet_fields.proofs.thread_at.Tie as tie

@@ -1,6 +1,6 @@
 -- `read_choice` hands up the sheet's refusal, and refuses a start that is not on the sheet, the left first.
 use mathlib.Core.Path.{refl}
-use Rattle.sheets.specs.Reading.{readSheet, readChoice}
+use Rattle.sheet_reading.specs.Reading.{readSheet, readChoice}
 use Rattle.sheet_laws.specs.ReadingLaws.{choice-no-sheet}
 use Rattle.sheet_types.specs.HeldSheet.{sheetOf}
 use Rattle.sheet_types.specs.SectionLaws.{with-refused}

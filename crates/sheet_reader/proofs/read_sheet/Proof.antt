@@ -1,7 +1,7 @@
 -- `read_sheet` reads the sections one after another; the first refusal is handed up, and the sheet is made of what was read.
 use mathlib.Core.Path.{refl, sym, subst, _∙_}
 use Rattle.list_laws.specs.Tabulate.{tabulate-length}
-use Rattle.sheets.specs.Reading.{readSheet}
+use Rattle.sheet_reading.specs.Reading.{readSheet}
 use Rattle.set_closure.specs.RuleTable.{rulesIn}
 use Rattle.sheet_types.specs.HeldSheet.{nodeIn, nodesIn, startsIn}
 use Rattle.sheet_types.specs.SectionLaws.{answer-got, answer-refused, with-got, with-refused, same-value, refused-never}

@@ -31,7 +31,7 @@ returns c =
     let x = packed .numbers in
     let k = closed .closure-at in
     noted-named (g .work .now) (g .b .first) (g .s) (g .b .caps) (n .last .0) (n .result) (g .a) (g .a) (x .result) (k .result)
-    (getD (g .work .now) (bitOr (g .b .store) (g .a)) 0 % 65536) (nodeBeside (g .e) .threads) refl (x .ensures .1) (k .ensures) (n .ensures)
+    (getD (g .work .now) (bitOr (g .b .store) (g .a)) 0 % 65536) (nodeBeside (g .e) .threads) refl (x .ensures .1) (k .ensures .entry) (n .ensures)
 
 pub note-label-spec : {M : Type 1} → statement M
 note-label-spec =

@@ -43,7 +43,7 @@ returns c =
     let k = told .closure-at in
     let h = noted-named (g .work .now) (g .b .first) (g .s .running) (g .b .caps) (n .last .0) (n .result)
     (z .result) (getD (g .work .now) 0 0 % 65536) (x .result) (k .result)
-    (getD (g .work .now) (bitOr (g .b .store) (g .c)) 0 % 65536) (nodeBeside (g .e) .threads) (z .ensures) (x .ensures .1) (k .ensures)
+    (getD (g .work .now) (bitOr (g .b .store) (g .c)) 0 % 65536) (nodeBeside (g .e) .threads) (z .ensures .entry) (x .ensures .1) (k .ensures .entry)
     (n .ensures) in
     record { turned = λ nodes of q. tell-over (s .pre .0) (s .pre .1) (s .pre .3) nodes of q (noted-full (c .enum-told .given .1) h) }
 
@@ -65,7 +65,7 @@ returns-2 c =
     let k = told .closure-at in
     let h = noted-named (g .work .now) (g .b .first) (g .s .running) (g .b .caps) (n .last .0) (n .result)
     (z .result) (getD (g .work .now) 0 0 % 65536) (x .result) (k .result)
-    (getD (g .work .now) (bitOr (g .b .store) (g .c)) 0 % 65536) (nodeBeside (g .e) .threads) (z .ensures) (x .ensures .1) (k .ensures)
+    (getD (g .work .now) (bitOr (g .b .store) (g .c)) 0 % 65536) (nodeBeside (g .e) .threads) (z .ensures .entry) (x .ensures .1) (k .ensures .entry)
     (n .ensures) in
     record {
       turned = λ nodes of q.

@@ -67,7 +67,7 @@ add-requires c κs =
 
 numbers-requires : tie.Need-numbers-requires
 numbers-requires c κs =
-    subst (λ (x : Configuration). x .count ≤ 8) (sym (c .before .add .ensures))
+    subst (λ (x : Configuration). x .count ≤ 8) (sym (c .before .add .ensures .held))
     (c .before .before .before .before .configuration-of .ensures .1)
 
 note-member-requires : tie.Need-note-member-requires
@@ -89,7 +89,7 @@ returns-3 c =
     (subst (λ (x : ℕ). bitAnd x (g .label) ≡ x) (a .ensures) (d .before .before .before .before .if1 .left))
     (m .last .0) (m .result)
     (subst (λ (x : spec.Configuration). EnteredAs (g .work .now) (g .b .first) (g .s) (g .b .caps) x (m .last .0) (m .result))
-    (c .before .before .before .numbers .ensures .1 ∙ ap configuration (c .before .before .before .before .before .add .ensures))
+    (c .before .before .before .numbers .ensures .1 ∙ ap configuration (c .before .before .before .before .before .add .ensures .held))
     (m .ensures))
 
 pub add-to-spec : {M : Type 1} → statement M

@@ -1,7 +1,8 @@
 -- `take_move` takes the first move of the left that tells, and that of the right only where the left has none.
 use native.Mathlib.Omega.{arith}
 use Prim.Native.Nat.{_-_}
-use Rattle.trail_search.specs.TrailTests.{place-fits, move-of, move-fits, takes-left, takes-right, takes-none}
+use Rattle.telling_moves.specs.TrailTests.{place-fits, move-of, move-fits}
+use Rattle.trail_search.specs.TakenTests.{takes-left, takes-right, takes-none}
 use Rattle.trail_search.proofs.take_move.Statement.{statement}
 use Rattle.trail_search.proofs.take_move.Tie as tie
 

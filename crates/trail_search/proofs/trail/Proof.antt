@@ -7,7 +7,7 @@ use mathlib.Core.Logic.{⊎-elim}
 use borrow.Author.Tests.{eqb-true, eqb-false}
 use Rattle.trail_search.specs.FollowedTrail.{Following, following-first, following-stop-first, following-stop-never, following-end, follows-now}
 use Rattle.trail_search.specs.TrailTurn.{step-room, reply-fits, step-alone, step-on}
-use Rattle.trail_search.specs.TrailTests.{apart-fits}
+use Rattle.telling_moves.specs.TrailTests.{apart-fits}
 use lib.ListN.{length, length-set}
 use Rattle.trail_search.proofs.trail.Statement.{statement}
 use Rattle.trail_search.proofs.trail.Tie as tie

@@ -1,0 +1,79 @@
+-- The blocks before the q-th are spread, and those from it on are as they were.
+use borrow.Author.Needs.{needs}
+use native.Mathlib.Omega.{arith}
+use Prim.Native.Nat.{_-_, _*_, _^_, _≤_}
+use mathlib.Core.Path.{_≡_}
+use Rattle.conclusion_passes.specs.GatheredConclusions.{United, Spread}
+use Rattle.conclusion_passes.specs.GatheredLaws.{spread-none, spread-next, block-fits}
+use Rattle.conclusion_passes.proofs.spread.Statement.{statement}
+use Rattle.conclusion_passes.proofs.spread.Tie as tie
+
+abbrev Inv-loop : tie.InvT-loop
+Inv-loop table₀ blocks fact half q₀ table q = (q ≤ blocks) × Spread fact (2 * q * 2 ^ fact) table₀ table
+
+abbrev μ-loop : tie.MeasureT-loop
+μ-loop table₀ blocks fact half q₀ table q = blocks - q
+
+sets-of-requires : tie.Need-sets-of-requires Inv-loop μ-loop
+sets-of-requires c κs = search needs
+
+loop-holds : tie.Need-loop-holds Inv-loop μ-loop
+loop-holds c = (search needs, spread-none (c .before .before .args .fact) (c .before .before .args .work .now))
+
+mul-spread-block : tie.Need-mul-spread-block Inv-loop μ-loop
+mul-spread-block c = search needs
+
+mul-spread-block-2 : tie.Need-mul-spread-block-2 Inv-loop μ-loop
+mul-spread-block-2 c =
+    let a = c .before .before .before .before .before .args in
+    let e : c .before .before .before .sets-of .result ≡ 2 ^ a .fact = omega arith in
+    let h : 2 * c .before .before .loop .q * c .before .before .before .sets-of .result ≤ 4096 =
+    rw e (omega (arith, block-fits {blocks = a .blocks} (a .fact) (c .before .loop-test .taken))) in
+    search needs
+
+spread-block-requires : tie.Need-spread-block-requires Inv-loop μ-loop
+spread-block-requires c κs =
+    let a = c .before .before .before .before .before .args in
+    let e : c .before .before .before .sets-of .result ≡ 2 ^ a .fact = omega arith in
+    let f = block-fits {blocks = a .blocks} (a .fact) (c .before .loop-test .taken) in
+    rw e (omega (arith, c .before .before .loop .inv .1 .long), omega arith)
+
+add-q : tie.Need-add-q Inv-loop μ-loop
+add-q c = search needs
+
+loop-less : tie.Need-loop-less Inv-loop μ-loop
+loop-less c = search needs
+
+loop-again : tie.Need-loop-again Inv-loop μ-loop
+loop-again c =
+    let a = c .before .before .before .before .before .before .before .before .args in
+    let l = c .before .before .before .before .before .loop in
+    let e : c .before .before .before .before .before .before .sets-of .result ≡ 2 ^ a .fact = omega arith in
+    let u : United (2 * l .q * 2 ^ a .fact) (2 ^ a .fact) (2 ^ a .fact) (l .work) (c .before .before .spread-block .last .0) =
+    rw e at (c .before .before .spread-block .ensures) in
+    (search needs, spread-next (a .fact) (l .q) (a .work .now) (l .work) (c .before .before .spread-block .last .0) (l .inv .1) u)
+
+same-length : tie.Need-same-length Inv-loop μ-loop
+same-length c = search needs
+
+returns : tie.Need-returns Inv-loop μ-loop
+returns c =
+    let e : c .before .loop .q ≡ c .before .before .before .before .args .blocks = omega arith in
+    rw e at (c .before .loop .inv .1)
+
+pub spread-spec : {M : Type 1} → statement M
+spread-spec =
+    tie.close
+    (tie.spec
+    Inv-loop
+    μ-loop
+    sets-of-requires
+    loop-holds
+    mul-spread-block
+    mul-spread-block-2
+    spread-block-requires
+    add-q
+    loop-less
+    loop-again
+    same-length
+    returns)

@@ -1,0 +1,2 @@
+pub mod NodeMarks
+pub mod MarkLaws

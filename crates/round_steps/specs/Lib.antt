@@ -1,0 +1,4 @@
+pub mod FirstRound
+pub mod ChosenMembers
+pub mod SplitRounds
+pub mod AwakeMembers

@@ -1,0 +1,4 @@
+pub mod PlaceTests
+pub mod TrailLayout
+pub mod TrailPlaces
+pub mod TrailTests

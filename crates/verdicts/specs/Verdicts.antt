@@ -1,0 +1,10 @@
+-- The verdict that goes with the round that separates two members.
+use mathlib.Core.Bool.{cond}
+use Prim.Native.Nat.{ℕ, _-_}
+use lib.Dec.{eqb}
+use Rattle.answers.specs.declared.Reported.{Reported}
+
+-- the verdict on two members that are first separated in round `apart` of `last` rounds, and the round that goes with it
+abbrev pub verdictOn : ℕ → ℕ → ℕ → ℕ → ℕ → Reported
+verdictOn apart last left right size =
+    record { same = eqb apart last; round = cond (eqb apart last) (last - 1) apart; left = left; right = right; length = size }
