@@ -24,7 +24,7 @@ use Rattle.refinement_laws.specs.StableRounds.{member-of}
 use Rattle.comparison.specs.CallLimits.{Limits, NoGreater, limits}
 use Rattle.comparison.specs.Set.{explored, fits}
 use Rattle.comparison.specs.Classes.{numberedFrom, numbered}
-use Rattle.comparison_laws.specs.ClassLaws.{Numbering, no-more, in-use, next, numberedFrom-numbering}
+use Rattle.comparison_laws.specs.ClassLaws.{Numbering, no-more, in-use, next, numberedFrom-numbering, numbered-length}
 use Rattle.comparison.specs.Rounds.{rounds, classes, refined, resultOf, apartIn, storesEqual, together}
 use Rattle.comparison.specs.Trail.{Side, left, right, Reply, none, move, TrailStep, after, firstOf, replyTo, unanswered, trailFrom}
 use Rattle.comparison_laws.specs.TrailLaws.{unanswered-mem, reply-mem, trail-length}
@@ -36,17 +36,12 @@ use Rattle.comparison_laws.specs.SetLaws.{explored-seeds, explored-member, expl
 use Rattle.comparison_laws.specs.RoundLaws.{ClosedList}
 use Rattle.comparison_laws.specs.SheetMoves.{lawful}
 use Rattle.comparison.specs.SheetTransitions.{transitions}
-use Rattle.comparison_laws.specs.ResultLaws.{rounds-of, rounds-at, result-is}
+use Rattle.comparison_laws.specs.ResultLaws.{classes-length, rounds-of, rounds-at, result-is}
 use Rattle.comparison_laws.specs.Theorem.{member-some}
 use Rattle.comparison_laws.specs.CallTheorem.{reports-exactly}
 use Rattle.answer_laws.specs.Fitting.{ReplyFits, StepFits, Fitting}
 
 -- ---- classes
-numbered-length : {A : Type 0} (test : A → A → Bool) (firsts ps : List A) → length (numberedFrom test firsts ps) ≡ length ps
-unfolding numberedFrom
-numbered-length test firsts [] = refl
-numbered-length test firsts (p ∷ ps) = ap suc (numbered-length test _ ps)
-
 -- a number is one of those in use, or one of as many more as there are numbers
 numbering-small : {n : ℕ} {ks : List ℕ} → Numbering n ks → (i : ℕ) → getD ks i 0 ≤ n + length ks
 numbering-small no-more zero = omega arith
@@ -64,12 +59,6 @@ classes-small : (sheet : Sheet) (set : List Configuration) (n i : ℕ) → getD 
 unfolding classes refined
 classes-small sheet set zero i = numbers-small (storesEqual sheet set) set i
 classes-small sheet set (suc n) i = numbers-small (together sheet set (classes sheet set n)) set i
-
--- and there is one for each member
-classes-length : (sheet : Sheet) (set : List Configuration) (n : ℕ) → length (classes sheet set n) ≡ length set
-unfolding classes refined
-classes-length sheet set zero = numbered-length (storesEqual sheet set) [] set
-classes-length sheet set (suc n) = numbered-length (together sheet set (classes sheet set n)) [] set
 
 -- ---- constraints and labels
 module _ (sheet : Sheet) (fine : Admissible sheet) where

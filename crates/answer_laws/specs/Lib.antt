@@ -1,4 +1,3 @@
 pub mod Fitting
-pub mod MemberPlaces
 pub mod FittingLaws
 pub mod ReadBackLaws

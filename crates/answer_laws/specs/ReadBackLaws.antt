@@ -20,7 +20,7 @@ use Rattle.comparison.specs.Trail.{Side, left, right, Reply, none, move, TrailS
 use Rattle.comparison.specs.Report.{Report, memberBytes, stepBytes, sideByte, replyNumber, reportBytes}
 use Rattle.answers.specs.ReadBack.{memberFirst, classFirst, behindThreads, behindMember, membersRead, classesRead, behindMembers, sideRead, memberWith, replyRead, stepFirst, stepsRead, readBack}
 use Rattle.answer_laws.specs.Fitting.{ReplyFits, StepFits, Fitting}
-use Rattle.answer_laws.specs.MemberPlaces.{place-of-member}
+use Rattle.comparison_laws.specs.MemberPlaces.{place-of-member}
 
 -- two bytes in front
 word-front : (n : ℕ) (more : List ℕ) → n < 65536 → word (wordBytes n ++ more) 0 ≡ n

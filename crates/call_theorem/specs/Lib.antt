@@ -1,1 +1,2 @@
 pub mod CallPromiseLaws
+pub mod PromiseAlone

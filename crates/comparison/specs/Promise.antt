@@ -98,7 +98,8 @@ pub record Faithful (sheet : Sheet) (p q : Configuration) (r : Report) : Type 1 
   pub same : (r .verdict ≡ SAME) ↔ ((n : ℕ) → TellsApart (transitions sheet) n p q → ⊥)
   -- SAME carries the number of the result's round
   pub same-round : r .verdict ≡ SAME → ResultRound sheet (p ∷ q ∷ []) (r .round)
-  -- classes are numbered from 0 by first member
+  -- each member has a class, and classes are numbered from 0 by first member
+  pub classed : length (r .classes) ≡ length (r .members)
   pub numbering : NumberedByFirst (r .classes)
   -- the trail of a DIFF can be walked with the sheet in hand; that of a SAME is empty
   pub trail-walks : r .verdict ≡ DIFF → Walkable sheet (r .round) p q (r .steps)

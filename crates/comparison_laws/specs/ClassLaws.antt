@@ -321,3 +321,9 @@ module _ (set : List Configuration) (test : Configuration → Configuration → 
       same {f} mf (passes a) (fails b) = true-false (test f q) (eq .transitive f p q mf mp mq a h) b
       same {f} mf (fails a) (passes b) = true-false (test f p) (eq .transitive f q p mf mq mp b (eq .symmetric p q mp mq h)) a
       same mf (fails a) (fails b) = a ∙ sym b
+
+-- there is a number for each element
+pub numbered-length : {A : Type 0} (test : A → A → Bool) (firsts ps : List A) → length (numberedFrom test firsts ps) ≡ length ps
+unfolding numberedFrom
+numbered-length test firsts [] = refl
+numbered-length test firsts (p ∷ ps) = ap suc (numbered-length test _ ps)

@@ -1,12 +1,15 @@
 pub mod SheetMoves
 pub mod ClassLaws
+pub mod MemberPlaces
 pub mod CountLaws
 pub mod RoundLaws
 pub mod SetLaws
 pub mod ResultLaws
 pub mod TrailLaws
 pub mod TrailWalk
+pub mod TrailAlone
 pub mod ReportLaws
 pub mod Theorem
+pub mod FaithfulAlone
 pub mod CallTheorem
 pub mod KnownRows

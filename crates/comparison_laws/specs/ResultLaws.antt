@@ -17,7 +17,7 @@ use Rattle.comparison.specs.Classes.{numbered}
 use Rattle.comparison.specs.Rounds.{storesEqual, together, refined, classes, roundsFrom, rounds, resultOf}
 use Rattle.refinement.specs.Refinement.{Round}
 use Rattle.comparison.specs.SheetTransitions.{transitions}
-use Rattle.comparison_laws.specs.ClassLaws.{Equivalence, numbered-same, numbered-by-first}
+use Rattle.comparison_laws.specs.ClassLaws.{Equivalence, numbered-same, numbered-by-first, numbered-length}
 use Rattle.comparison.specs.Promise.{NumberedByFirst}
 use Rattle.comparison_laws.specs.RoundLaws.{ClosedList, sharing, stores-equivalence, together-yes, together-test, together-equivalence}
 use Rattle.comparison_laws.specs.CountLaws.{classCount, classCount-some, classCount-few, same-or-more}
@@ -192,3 +192,9 @@ module _ (sheet : Sheet) (set : List Configuration) where
           first = λ m l. subst (λ (i : ℕ). classes sheet set (suc i) ≡ classes sheet set i → ⊥) (from-zero m) (r .splits m (omega arith));
           few = omega (arith, r .grows n (omega arith), count-few (0 + n), count-some s);
         }
+
+-- the classes of every round have a number for each member
+pub classes-length : (sheet : Sheet) (set : List Configuration) (n : ℕ) → length (classes sheet set n) ≡ length set
+unfolding classes refined
+classes-length sheet set zero = numbered-length (storesEqual sheet set) [] set
+classes-length sheet set (suc n) = numbered-length (together sheet set (classes sheet set n)) [] set

@@ -1,6 +1,6 @@
 -- Demand 3, proved about the executable definitions: a report is faithful, for every sheet that is read, every choice of
 -- starts and every limits.
-use mathlib.Core.Path.{_≡_, refl, sym, subst}
+use mathlib.Core.Path.{_≡_, refl, sym, ap, _∙_, subst}
 use mathlib.Core.Logic.{_↔_, ⊎-elim}
 use mathlib.Core.Bool.{Bool, true, false, cond}
 use mathlib.Core.List.{List, [], _∷_, List·Memᴰ, List·Memᴰ·head, List·Memᴰ·tail, List·Memᴰ·not-nil, List·Memᴰ·cases-cons, List·Memᴰ·eq-of-singleton}
@@ -27,7 +27,7 @@ use Rattle.comparison_laws.specs.SheetMoves.{lawful}
 use Rattle.comparison_laws.specs.ClassLaws.{placeOf-lt, placeOf-at}
 use Rattle.comparison_laws.specs.RoundLaws.{ClosedList, share-round}
 use Rattle.comparison_laws.specs.SetLaws.{explored-seeds, explored-member, explored-ascends, explored-closed, explored-complete, fits-not-over}
-use Rattle.comparison_laws.specs.ResultLaws.{Result, result-is, classes-by-first, stable-classes, rounds-of, rounds-at}
+use Rattle.comparison_laws.specs.ResultLaws.{classes-length, Result, result-is, classes-by-first, stable-classes, rounds-of, rounds-at}
 use Rattle.comparison_laws.specs.TrailLaws.{apart-le, trail-none}
 use Rattle.comparison_laws.specs.TrailWalk.{together-below, apart-first, trail-walkable}
 use Rattle.comparison.specs.Promise.{ResultRound, NumberedByFirst, Walkable, Faithful}
@@ -211,6 +211,12 @@ module _ (sheet : Sheet) (wf : WellFormed sheet) (l : Limits) (p q : Configurati
       (sym (rounds-at sheet members wf closed-members some-member n (omega (arith, rounds-of sheet members wf closed-members some-member .some))))
       (classes-by-first sheet members n)
 
+  classed-of : length (getD (rounds sheet members) (resultOf (rounds sheet members)) []) ≡ length members
+  classed-of =
+      let n : ℕ = resultOf (rounds sheet members) in
+      ap length (rounds-at sheet members wf closed-members some-member n (omega (arith, rounds-of sheet members wf closed-members some-member .some)))
+      ∙ classes-length sheet members n
+
   walks-of : {v : Verdict} {n : ℕ} → Tells v n → v ≡ DIFF → Walkable sheet n p q (trail sheet members (rounds sheet members) p q)
   walks-of (told-same s f) e = absurd (same-not-diff e)
   walks-of (told-diff h f) e =
@@ -233,6 +239,7 @@ module _ (sheet : Sheet) (wf : WellFormed sheet) (l : Limits) (p q : Configurati
         diff-round = diff-round-of t;
         same = same-of t;
         same-round = same-round-of t;
+        classed = classed-of;
         numbering = classes-of;
         trail-walks = walks-of t;
         trail-none = no-steps-of t;

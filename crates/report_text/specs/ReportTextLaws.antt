@@ -17,7 +17,7 @@ use Rattle.comparison.specs.Report.{Verdict, SAME, DIFF, Report, memberBytes, s
 use Rattle.comparison.specs.Outcome.{reported}
 use Rattle.comparison.specs.Print.{verdictWord, configurationsWord, trailWord, memberLine, memberLines, stepLine, printed}
 use Rattle.answer_laws.specs.Fitting.{Fitting}
-use Rattle.answer_laws.specs.MemberPlaces.{place-of-member}
+use Rattle.comparison_laws.specs.MemberPlaces.{place-of-member}
 use Rattle.text.specs.Slices.{Stored}
 use Rattle.text.specs.StoredText.{stored-length}
 use Rattle.report_text.specs.Runs.{run-whole}

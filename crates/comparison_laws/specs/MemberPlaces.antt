@@ -14,12 +14,12 @@ use Rattle.sheets.specs.Sheet.{Configuration}
 use Rattle.moves.specs.Orders.{configurationBefore}
 use Rattle.move_laws.specs.OrderLaws.{configurationOrder}
 use Rattle.comparison.specs.Classes.{placeOf}
 use Rattle.comparison_laws.specs.ClassLaws.{placeOf-lt, placeOf-at}
 
 -- no two places have one member
-apart : (set : List Configuration) → Ascends configurationBefore set → (d : Configuration) (i j : ℕ) → i < j → j < length set
+pub places-apart : (set : List Configuration) → Ascends configurationBefore set → (d : Configuration) (i j : ℕ) → i < j → j < length set
     → getD set i d ≡ getD set j d → ⊥
-apart set asc d i j h l e =
+places-apart set asc d i j h l e =
     configurationOrder .irreflexive (getD set j d)
     (subst (λ (p : Configuration). configurationBefore p (getD set j d) ≡ true) e (ascends-places configurationOrder set asc i j d h l))
 
@@ -33,6 +33,6 @@ place-of-member set asc d i l =
     go j k (getD-any set j d p k ∙ placeOf-at set p (getD-in set i d l)) (tested (ltb j i)) (tested (ltb i j))
   where
     go : (j : ℕ) → j < length set → getD set j d ≡ getD set i d → Tested (ltb j i) → Tested (ltb i j) → j ≡ i
-    go j b e (passes y) t = absurd (apart set asc d j i (ltb-true j i y) l e)
-    go j b e (fails y) (passes z) = absurd (apart set asc d i j (ltb-true i j z) b (sym e))
+    go j b e (passes y) t = absurd (places-apart set asc d j i (ltb-true j i y) l e)
+    go j b e (fails y) (passes z) = absurd (places-apart set asc d i j (ltb-true i j z) b (sym e))
     go j b e (fails y) (fails z) = omega (arith, ltb-false j i y, ltb-false i j z)
