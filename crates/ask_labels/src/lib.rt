@@ -1,15 +1,17 @@
 // The labels of an ask, worked out once for each store and what it lacks of the asked set.
 use closure_table::sets_of;
 use label_search::labels_from;
-use label_search::number_at;
+use label_tests::number_at;
 use work_layout::HEADS;
 use work_layout::LISTS;
 use work_layout::LISTS_END;
 ghost use mathlib.Core.Path.{_≡_};
+ghost use mathlib.Core.Bool.{cond};
 ghost use Prim.Native.Nat.{_+_, _-_, _/_, _≤_, _<_, _^_};
 ghost use lib.ListN.{length};
+ghost use lib.Dec.{eqb};
 ghost use Rattle.label_search.specs.FactsOutside.{outside};
-ghost use Rattle.ask_labels.specs.LabelShelf.{maxSets, askedOf, putEntry, Shelved, HasRoom, ShelfRoom, LabelsGiven};
+ghost use Rattle.ask_labels.specs.LabelShelf.{maxSets, noEntries, askedOf, putEntry, Shelved, HasRoom, ShelfRoom, LabelsGiven};
 ghost use Rattle.work_layout.specs.WorkLayout.{listsAt, listsEnd};
 
 const MAX_SETS: usize = 64;
@@ -25,6 +27,16 @@ pub struct Labelled {
     pub first: usize,
     pub end: usize,
     pub shelf: Shelf,
+}
+
+// The shelf, with no entries where the store is another.
+pub fn shelf_for(shelf: Shelf, store: u32, other: u32) -> Shelf
+    ensures { λ r. ⌜ r ≡ cond (eqb store other) shelf noEntries ⌝ }
+{
+    if store == other {
+        return shelf;
+    }
+    Shelf { sets: 0, used: 0 }
 }
 
 // The first of n entries that is for c, or n.

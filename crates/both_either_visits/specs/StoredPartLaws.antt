@@ -2,13 +2,12 @@
 -- move to a configuration of too many threads.
 use mathlib.Core.Path.{_≡_, refl, sym, ap, _∙_, subst}
 use mathlib.Core.Logic.{_⊎_, inl, inr, ⊎-elim}
-use mathlib.Core.Bool.{Bool, true, false, not, cond}
+use mathlib.Core.Bool.{Bool, true, false, cond}
 use mathlib.Core.List.{List, [], _∷_, _++_, List·Memᴰ, List·Memᴰ·head, List·Memᴰ·not-nil, List·Memᴰ·append-cases, List·Memᴰ·eq-of-singleton, Memᴰ·append-left, Memᴰ·append-right}
 use Prim.Native.Nat.{ℕ, _+_, _^_, _≤_, _<_}
 use native.Mathlib.Omega.{arith}
 use lib.ListN.{length, getD}
-use borrow.Author.Tests.{leb-true, leb-false}
-use Rattle.lists.specs.Lists.{NotFalling, sortUp}
+use Rattle.lists.specs.Lists.{sortUp}
 use Rattle.list_laws.specs.SortingLaws.{insertAll}
 use Rattle.list_laws.specs.Frames.{SameOutside, outside-same, outside-wider}
 use Rattle.sheets.specs.Sheet.{Node, both, either, Sheet, nodeOf, opened}
@@ -20,9 +19,7 @@ use Rattle.node_moves.specs.ThreadLaws.{insert-all-sorts, sort-append-length}
 use Rattle.comparison.specs.Promise.{PassesLimit}
 use Rattle.set_growth.specs.SetGrowth.{Growth, InHand}
 use Rattle.set_growth.specs.SetGrowthLaws.{move-threads-pass}
-use Rattle.nodes_to_visit.specs.declared.NodeBeside as held
-use Rattle.nodes_to_visit.specs.declared.Beside.{Beside}
-use Rattle.nodes_to_visit.specs.NodesToVisit.{nodeBeside, PendingPacked, Entered, PutBeside}
+use Rattle.nodes_to_visit.specs.NodesToVisit.{PendingPacked, Entered}
 use Rattle.nodes_to_visit.specs.NodesToVisitLaws.{weight, weight-none, weight-append, weight-next, weight-parts}
 use Rattle.walk_state.specs.declared.Basis.{Basis}
 use Rattle.walk_state.specs.declared.Walk.{Walk}
@@ -30,7 +27,8 @@ use Rattle.walk_state.specs.declared.Walked.{Walked}
 use Rattle.walk_state.specs.declared.Walked.the-variants.{On, Over}
 use Rattle.walk_state.specs.WalkState.{NodesOf, VisitFits, Walking, Covering, OnSheet, TurnOn}
 use Rattle.walk_state.specs.PushedInWalk.{threads-joined, topped, NodesAdded, added-none, entered-added, entered-few, entered-long, entered-packed, entered-walking, added-again, GiveSame, given-of-one, give-same-refl, parts-give, added-turn}
-use Rattle.both_either_visits.specs.StoredParts.{threadsAt, besideOf, PassedOver, PartStored, PartTooLong, PartAs, NodeKnown, BothTurned, EitherTurned}
+use Rattle.part_entry.specs.PartEntry.{threadsAt, besideOf, PassedOver, PartStored, PartTooLong, PartAs}
+use Rattle.both_either_visits.specs.StoredParts.{NodeKnown, BothTurned, EitherTurned}
 use Rattle.work_layout.specs.WorkLayout.{workEnd, movesAt, pendingAt, pendingEnd}
 
 -- ---- marks
@@ -41,11 +39,6 @@ still-mark false mark e z = refl
 moving-mark : (x : Bool) (mark : ℕ) → mark ≡ cond x 1 0 → (mark ≡ 0 → ⊥) → x ≡ true
 moving-mark true mark e n = refl
 moving-mark false mark e n = absurd (n e)
-
--- ---- a test turned round
-pub not-left : (x : Bool) → not x ≡ false → x ≡ true
-not-left true h = refl
-not-left false h = sym h
 
 -- ---- at most one node was stored, the slice is as long as it was, and every entry has numbers that stand for a node
 part-room : {rank : ℕ → ℕ} {mark : ℕ} {x : NodeBeside} {limit n : ℕ} {v w : List ℕ} {s t : Walk}
@@ -60,49 +53,6 @@ part-packed {v = v} {w} {s} {t} f (inl o) i l =
     let a : t .top ≡ s .top = ap (λ (i : Walk). i .top) (o .walk) in
     subst (λ (z : List ℕ). PendingPacked z i) (sym (o .same)) (f i (omega arith))
 part-packed f (inr o) i l = entered-packed f (o .entered) i l
-
--- ---- the threads of another node put beside
-joined-length : (ts more : List ℕ) → NotFalling ts → length (insertAll ts more) ≡ length ts + length more
-joined-length ts more n =
-    let a : length (insertAll ts more) ≡ length (sortUp (more ++ ts)) = ap length (insert-all-sorts ts more n) in
-    omega (arith, sort-append-length more ts)
-
-module _ (threads : List ℕ) (e : held.NodeBeside) (limit : ℕ) (r : Beside) (a : PutBeside threads e limit r)
-    (n : length (nodeBeside e .threads) ≡ e .count) (up : NotFalling (nodeBeside e .threads)) where
-  -- so many threads are beside the node
-  pub beside-few : r .fits ≡ true → r .at .count ≤ limit
-  beside-few t = omega (arith, leb-true (e .count + length threads) limit (sym (a .fits) ∙ t), a .count t)
-
-  module _ (mark p : ℕ) (moving : mark ≡ 0 → ⊥) (v : List ℕ) where
-    pub part-too-long : r .fits ≡ false → PartTooLong mark (besideOf p threads (nodeBeside e)) limit v v
-    part-too-long t = record {
-      moves = moving;
-      many =
-          omega (
-            arith,
-            leb-false (e .count + length threads) limit (sym (a .fits) ∙ t),
-            joined-length (nodeBeside e .threads) threads up,
-          );
-      same = refl;
-    }
-
-    pub part-stored : {rank : ℕ → ℕ} (s : Walk) (w : List ℕ) (high m next : ℕ) → m ≡ high → r .fits ≡ true
-        → Entered rank v (s .top) m (record { node = p; threads = nodeBeside (r .at) .threads }) w next
-        → PartStored rank mark (besideOf p threads (nodeBeside e)) limit high v s w (topped s next)
-    part-stored {rank} s w high m next q t o = record {
-      moves = moving;
-      few =
-          omega (
-            arith,
-            leb-true (e .count + length threads) limit (sym (a .fits) ∙ t),
-            joined-length (nodeBeside e .threads) threads up,
-          );
-      entered =
-          subst (λ (h : ℕ). Entered rank v (s .top) h (besideOf p threads (nodeBeside e)) w next) q
-          (subst (λ (l : List ℕ). Entered rank v (s .top) m (record { node = p; threads = l }) w next)
-          (ap (λ (x : NodeBeside). x .threads) (a .joined t)) o);
-      walk = refl;
-    }
 
 -- ---- the weight of one node
 weight-one : (rank : ℕ → ℕ) (e : NodeBeside) → weight rank (e ∷ []) ≡ 3 ^ (rank (e .node) + 1)

@@ -3,24 +3,23 @@
 use mathlib.Core.Path.{_≡_, refl, sym, ap, ap₂, _∙_, subst}
 use mathlib.Core.Bool.{Bool, true, false, cond, _||_}
 use mathlib.Core.List.{List, _++_}
-use Prim.Native.Nat.{ℕ, _≤_, _<_}
+use Prim.Native.Nat.{ℕ, _≤_}
 use native.Mathlib.Omega.{arith}
 use lib.ListN.{length, getD, replicate}
-use lib.Dec.{eqb, ltb}
 use borrow.Author.Tests.{lt-ltb, le-ltb, ne-eqb}
-use Rattle.list_laws.specs.Frames.{SameOutside, outside-drop}
+use Rattle.list_laws.specs.Frames.{outside-drop}
 use Rattle.sheets.specs.Refusals.{largeSet, shortAnswer, shortWork}
 use Rattle.sheets.specs.Sheet as spec
 use Rattle.sheets.specs.WellFormed.{Admissible}
 use Rattle.sheet_reading.specs.Reading.{Reading, got, refused, readChoice}
-use Rattle.sheet_laws.specs.ReadingLaws.{choice-read, read-admissible}
+use Rattle.sheet_reading.specs.SheetRead.{choice-reads}
+use Rattle.sheet_laws.specs.ReadingLaws.{written-admissible}
 use Rattle.sheet_laws.specs.RefusalNumbers.{number-low}
 use Rattle.comparison.specs.CallLimits.{Limits, workLength}
 use Rattle.comparison.specs.Set.{explored, fits}
 use Rattle.comparison.specs.Outcome.{Outcome, refusal, cleared, clears, workRefused}
-use Rattle.sheets.specs.Sheet.{start}
 use Rattle.comparison.specs.Frame.{withSet, withWork, withSheet}
-use Rattle.comparison.specs.Promise.{PassesLimit, startsOf}
+use Rattle.comparison.specs.Promise.{startsOf}
 use Rattle.comparison_laws.specs.SetLaws.{fits-exactly}
 use Rattle.work_layout.specs.WorkLayout.{workEnd, memberRoom}
 use Rattle.sheet_types.specs.declared.Configuration.{Configuration}
@@ -162,7 +161,7 @@ module _ {A : Type 0} (on : spec.Sheet → List spec.Configuration → Outcome A
         sheet = sheet;
         end = end;
         read = e;
-        fine = read-admissible bytes sheet end (choice-read bytes left right sheet end e .read);
+        fine = written-admissible bytes sheet (choice-reads bytes left right .sound .got-is sheet end e .0 .written);
         long = x .long;
         whole = x .whole;
         outcome = read-as (got sheet end) (length v) e ∙ long-enough sheet v (x .long) ∙ fitting-set sheet v (x .whole .fit);

@@ -14,7 +14,8 @@ ghost use Rattle.node_opening.specs.OpenedNodes.{OpenedTable};
 ghost use Rattle.sheets.specs.WellFormed.{Admissible};
 ghost use Rattle.sheet_types.specs.HeldSheet.{startsIn, sheetOf, nodesIn};
 ghost use Rattle.comparison.specs.CallLimits.{limits};
-ghost use Rattle.found_set.specs.FoundSet.{limitsOf, CapsFit, SeedsFit};
+ghost use Rattle.seed_members.specs.Seeds.{CapsFit};
+ghost use Rattle.found_set.specs.FoundSet.{limitsOf, SeedsFit};
 ghost use Rattle.call_seeds.specs.Choice.{ChoiceHeld};
 ghost use Rattle.call_frame.specs.Begun.{BegunAs, SetBegun, ChoiceBegun, PairBegun};
 
@@ -33,7 +34,7 @@ pub struct Started {
 
 // The set that grows from the first k seeds of a sheet that is held; 23 where the work slice is too short, 21 where the set passes
 // a cap, and then the work slice is cleared.
-pub fn begin_set(
+fn begin_set(
     work: &mut [u32],
     sheet: Sheet,
     seeds: [Configuration; 16],

@@ -10,8 +10,10 @@ use Rattle.list_laws.specs.ListPlaces.{getD-in}
 use Rattle.sheets.specs.SheetLimits.{maxThreads}
 use Rattle.sheets.specs.Sheet as spec
 use Rattle.sheets.specs.WellFormed.{Admissible, OfSheet}
+use Rattle.sheets.specs.SheetBytes.{ChoiceIs}
 use Rattle.sheet_reading.specs.Reading.{got, readChoice}
-use Rattle.sheet_laws.specs.ReadingLaws.{ChoiceRead, choice-read, read-admissible}
+use Rattle.sheet_reading.specs.SheetRead.{choice-reads}
+use Rattle.sheet_laws.specs.ReadingLaws.{written-admissible}
 use Rattle.sheet_types.specs.HeldSheet.{configuration, noConfiguration, startsIn, sheetOf}
 use Rattle.sheet_types.specs.SectionLaws.{with-got}
 use Rattle.sheet_types.specs.declared.Configuration.{Configuration}
@@ -36,15 +38,15 @@ module _ (s : List ℕ) (left right : ℕ) (r : SheetRead) (found : SheetFound (
   -- it is held with both starts
   pub choice-held : ChoiceHeld (r .sheet) left right
   choice-held =
-      let chosen : ChoiceRead s left right (sheetOf (r .sheet)) end = choice-read s left right (sheetOf (r .sheet)) end choice-is in
-      let well : Admissible (sheetOf (r .sheet)) = read-admissible s (sheetOf (r .sheet)) end (chosen .read) in
+      let chosen : ChoiceIs s left right (sheetOf (r .sheet)) = choice-reads s left right .sound .got-is (sheetOf (r .sheet)) end choice-is .0 in
+      let well : Admissible (sheetOf (r .sheet)) = written-admissible s (sheetOf (r .sheet)) (chosen .written) in
       let held = found .held n end a in
       record {
         admissible = well;
         opened = held .opened;
         threads = held .threads;
-        left-start = rw (starts-count (r .sheet)) at (chosen .left-start);
-        right-start = rw (starts-count (r .sheet)) at (chosen .right-start);
+        left-start = rw (starts-count (r .sheet)) at (chosen .left-there);
+        right-start = rw (starts-count (r .sheet)) at (chosen .right-there);
         few-starts = rw (starts-count (r .sheet)) at (well .within .few-starts);
       }
 

@@ -9,7 +9,8 @@ ghost use Prim.Native.Nat.{_<_};
 ghost use lib.ListN.{getD, set};
 ghost use Rattle.sheet_types.specs.HeldSheet.{noConfiguration};
 ghost use Rattle.comparison.specs.CallLimits.{limits};
-ghost use Rattle.found_set.specs.FoundSet.{limitsOf, CapsFit};
+ghost use Rattle.seed_members.specs.Seeds.{CapsFit};
+ghost use Rattle.found_set.specs.FoundSet.{limitsOf};
 
 // The start with this number.
 pub fn start_at(starts: [Configuration; 16], k: usize) -> Configuration

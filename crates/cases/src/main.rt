@@ -30,13 +30,6 @@ fn room() -> [u8; 262144]
     [0; 262144]
 }
 
-// The work slice.
-fn work_room() -> [u32; 16384]
-    ensures { λ r. ⌜ 16384 ≡ length r ⌝ }
-{
-    [0; 16384]
-}
-
 // Writes what reading a sheet and choosing two starts gives.
 fn write_reading(sheet: &[u8], left: usize, right: usize) {
     let mut out = [0u8; 128];
@@ -165,7 +158,7 @@ fn run(text: &[u8], work: &mut [u32]) {
 
 fn main() {
     let mut text = room();
-    let mut work = work_room();
+    let mut work = work_layout::work_room();
     let n = io::read_full(STDIN_FILENO, &mut text);
     run(&text[..n], &mut work);
 }

@@ -1,13 +1,11 @@
 -- Whether two members have the same lines, as numbers that stand in the slice.
-use mathlib.Core.Path.{_≡_, sym, ap, ap₂, _∙_, subst}
+use mathlib.Core.Path.{_≡_, sym, ap, ap₂, _∙_}
 use mathlib.Core.Bool.{Bool}
 use mathlib.Core.List.{List}
 use Prim.Native.Nat.{ℕ, _+_, _-_, _≤_, _<_}
 use native.Mathlib.Omega.{arith}
 use lib.ListN.{length, getD}
-use lib.Dec.{eqb}
-use borrow.Author.Tests.{eqb-true, eqb-false}
-use Rattle.list_laws.specs.TestLaws.{Tested, tested, passes, fails}
+use Rattle.list_laws.specs.PlacesPassed.{holds-next}
 use Rattle.list_laws.specs.Tabulate.{tabulate, tabulate-same, tabulate-at}
 use Rattle.number_lists.specs.NumberLists.{numbersIn}
 use Rattle.number_lists.specs.NumberLaws.{numbers-tabulate, numbers-length}
@@ -43,11 +41,7 @@ abbrev pub AgreeBelow : List ℕ → ℕ → ℕ → ℕ → Type 0
 AgreeBelow w a b i = (j : ℕ) → j < i → getD w (a + j) 0 ≡ getD w (b + j) 0
 
 pub agree-more : (w : List ℕ) (a b i : ℕ) → AgreeBelow w a b i → getD w (a + i) 0 ≡ getD w (b + i) 0 → AgreeBelow w a b (i + 1)
-agree-more w a b i f e j l = go (tested (eqb j i))
-  where
-    go : Tested (eqb j i) → getD w (a + j) 0 ≡ getD w (b + j) 0
-    go (passes x) = subst (λ (z : ℕ). getD w (a + z) 0 ≡ getD w (b + z) 0) (sym (eqb-true j i x)) e
-    go (fails x) = f j (omega (arith, eqb-false j i x))
+agree-more w a b i f e j l = holds-next (λ k. getD w (a + k) 0 ≡ getD w (b + k) 0) 0 i (λ k _ m. f k m) e j (omega arith) l
 
 module _ (w : List ℕ) (a b k : ℕ) (ha : a + k ≤ length w) (hb : b + k ≤ length w) where
   pub agree-same : AgreeBelow w a b k → numbersFrom w a k ≡ numbersFrom w b k

@@ -1,13 +1,10 @@
 -- One member in the next round: it keeps its class, joins a part of it that was born in this round, or begins a new part.
-use mathlib.Core.Path.{_≡_, refl, sym, ap, ap₂, _∙_, subst}
+use mathlib.Core.Path.{_≡_, refl, sym, ap, ap₂, _∙_}
 use mathlib.Core.Bool.{Bool, true, false}
 use mathlib.Core.List.{List}
 use Prim.Native.Nat.{ℕ, _+_, _*_, _≤_, _<_}
 use native.Mathlib.Omega.{arith}
 use lib.ListN.{length, set}
-use lib.Dec.{eqb}
-use borrow.Author.Tests.{eqb-true, eqb-false}
-use Rattle.list_laws.specs.TestLaws.{Tested, tested, passes, fails}
 use Rattle.work_layout.specs.SetLayout.{firstMove}
 use Rattle.round_lines.specs.MemberLinesFound.{lineTotal}
 use Rattle.class_splits.specs.ClassedPlaces.{Tells, chosenIn, Classed, classed-count, classed-spare}
@@ -20,15 +17,6 @@ pub record PartFound (w : List ℕ) (c i old count r : ℕ) : Type 0 where
   pub within : (old ≤ r) × (r ≤ count)
   pub found : r < count → PartFits w r c i
   pub none : r ≡ count → (k : ℕ) → old ≤ k → k < count → PartFits w k c i → ⊥
-
--- one part more that does not fit
-pub none-more : (w : List ℕ) (c i old k : ℕ) (t : Bool) → ((j : ℕ) → old ≤ j → j < k → PartFits w j c i → ⊥) → Tells t (PartFits w k c i)
-    → t ≡ false → (j : ℕ) → old ≤ j → j < k + 1 → PartFits w j c i → ⊥
-none-more w c i old k t f s e j h l = go (tested (eqb j k))
-  where
-    go : Tested (eqb j k) → PartFits w j c i → ⊥
-    go (passes x) = subst (λ (z : ℕ). PartFits w z c i → ⊥) (sym (eqb-true j k x)) (s .not-so e)
-    go (fails x) = f j h (omega (arith, eqb-false j k x))
 
 -- what giving the member at place i its class needs
 pub record MemberReady (w : List ℕ) (i old count : ℕ) : Type 0 where

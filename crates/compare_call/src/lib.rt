@@ -4,11 +4,12 @@ use call_frame::Begun;
 use collected_moves::Caps;
 ghost use lib.ListN.{length};
 ghost use Rattle.comparison.specs.Call.{compareWith, compare};
-ghost use Rattle.found_set.specs.FoundSet.{limitsOf, CapsFit};
+ghost use Rattle.seed_members.specs.Seeds.{CapsFit};
+ghost use Rattle.found_set.specs.FoundSet.{limitsOf};
 ghost use Rattle.compare_call.specs.Compared.{Compared};
 
 // The call with caps that are given.
-pub fn compare_within(
+fn compare_within(
     sheet: &[u8],
     left: usize,
     right: usize,

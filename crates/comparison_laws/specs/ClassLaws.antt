@@ -8,8 +8,8 @@ use Prim.Native.Nat.{ℕ, zero, suc, _≤_, _<_}
 use native.Mathlib.Omega.{arith}
 use lib.ListN.{length, getD, length-append}
 use lib.Dec.{eqb}
-use borrow.Author.Tests.{eqb-true, eqb-false, eq-eqb}
-use Rattle.list_laws.specs.TestLaws.{true-false, and-left, and-right, and-intro, not-back, not-passes, Tested, tested, passes, fails}
+use borrow.Author.Tests.{eqb-true, eqb-false, eq-eqb, not-true}
+use Rattle.list_laws.specs.TestLaws.{true-false, and-left, and-right, and-intro, not-passes, Tested, tested, passes, fails}
 use Rattle.list_laws.specs.ListPlaces.{getD-image}
 use Rattle.sheets.specs.Sheet.{Configuration}
 use Rattle.moves.specs.Orders.{configurationBefore}
@@ -255,8 +255,8 @@ numbered-by-first test ps = record { at = λ i l. go i (numbering-at (numberedFr
 -- ---- looking a member up
 pub same-is : (p q : Configuration) → sameConfiguration p q ≡ true → p ≡ q
 same-is p q h =
-    configurationOrder .total p q (not-back (configurationBefore p q) (and-left (not (configurationBefore p q)) (not (configurationBefore q p)) h))
-    (not-back (configurationBefore q p) (and-right (not (configurationBefore p q)) (not (configurationBefore q p)) h))
+    configurationOrder .total p q (not-true (configurationBefore p q) (and-left (not (configurationBefore p q)) (not (configurationBefore q p)) h))
+    (not-true (configurationBefore q p) (and-right (not (configurationBefore p q)) (not (configurationBefore q p)) h))
 
 pub same-refl : (p : Configuration) → sameConfiguration p p ≡ true
 same-refl p = go (tested (configurationBefore p p))

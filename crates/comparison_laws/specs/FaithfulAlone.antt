@@ -1,27 +1,25 @@
 -- The promise fixes the report: of a sheet and two starts, two reports that are faithful are one.
 use mathlib.Core.Path.{_≡_, refl, sym, ap, ap₂, _∙_}
 use mathlib.Core.Logic.{_⊎_, inl, inr}
-use mathlib.Core.Bool.{Bool, true, false}
-use mathlib.Core.List.{List, []}
+use mathlib.Core.List.{List}
 use Prim.Native.Nat.{ℕ, zero, suc, _<_}
 use native.Mathlib.Omega.{arith}
 use lib.ListN.{length, getD}
 use lib.Seq.{ext-getD}
-use lib.Dec.{ltb}
-use borrow.Author.Tests.{ltb-true, ltb-false, eqb-true, eq-eqb}
-use Rattle.list_laws.specs.TestLaws.{Tested, tested, passes, fails}
+use borrow.Author.Tests.{eqb-true, eq-eqb}
+use Rattle.list_laws.specs.TestLaws.{neither-below}
 use Rattle.list_laws.specs.AscendingLaws.{ascends-unique}
-use Rattle.list_laws.specs.ListPlaces.{getD-in, getD-any}
+use Rattle.list_laws.specs.ListPlaces.{getD-in}
 use Rattle.sheets.specs.Sheet.{Configuration, Sheet}
 use Rattle.move_laws.specs.OrderLaws.{configurationOrder}
 use Rattle.refinement.specs.Refinement.{Level, Bisimilar}
 use Rattle.comparison.specs.SheetTransitions.{transitions}
-use Rattle.comparison.specs.Classes.{share}
 use Rattle.comparison.specs.Trail.{TrailStep}
 use Rattle.comparison.specs.Report.{Verdict, SAME, DIFF, Report}
 use Rattle.comparison.specs.Promise.{ResultRound, NumberedByFirst, Faithful}
 use Rattle.comparison_laws.specs.MemberPlaces.{places-apart, place-of-member}
 use Rattle.comparison_laws.specs.TrailAlone.{one-first, trail-alone}
+use Rattle.comparison_laws.specs.Theorem.{same-not-diff}
 
 -- ---- numbers by first member
 -- two lists of numbers by first member that have the same equal ones are equal
@@ -41,33 +39,19 @@ module _ (c d : List ℕ) (by-c : NumberedByFirst c) (by-d : NumberedByFirst d) 
           → getD c i 0 ≡ getD d i 0
       go ih (inl x) y = sym (x .2) ∙ ih (x .0) (x .1) ∙ there (x .0) i (omega (arith, x .1, l)) l (x .2)
       go ih (inr x) (inl y) = absurd (x .0 (y .0) (y .1) (back (y .0) i (omega (arith, y .1, l)) l (y .2)))
-      go ih (inr x) (inr y) = least (tested (ltb (getD c i 0) (getD d i 0))) (tested (ltb (getD d i 0) (getD c i 0)))
-        where
-          least : Tested (ltb (getD c i 0) (getD d i 0)) → Tested (ltb (getD d i 0) (getD c i 0)) → getD c i 0 ≡ getD d i 0
-          least (passes t) _ =
-              let j = y .1 (getD c i 0) (ltb-true (getD c i 0) (getD d i 0) t) in
-              absurd (x .0 (j .0) (j .1) (ih (j .0) (j .1) ∙ j .2))
-          least (fails t) (passes u) =
-              let j = x .1 (getD d i 0) (ltb-true (getD d i 0) (getD c i 0) u) in
-              absurd (y .0 (j .0) (j .1) (sym (ih (j .0) (j .1)) ∙ j .2))
-          least (fails t) (fails u) = omega (arith, ltb-false (getD c i 0) (getD d i 0) t, ltb-false (getD d i 0) (getD c i 0) u)
+      go ih (inr x) (inr y) =
+          neither-below (getD c i 0) (getD d i 0)
+          (λ h. let j = y .1 (getD c i 0) h in x .0 (j .0) (j .1) (ih (j .0) (j .1) ∙ j .2))
+          (λ h. let j = x .1 (getD d i 0) h in y .0 (j .0) (j .1) (sym (ih (j .0) (j .1)) ∙ j .2))
 
   numbers-one : c ≡ d
   numbers-one = ext-getD 0 c d long (λ i l. number-one (suc i) i (omega arith) l)
 
 -- ---- the report
-same-not-diff : SAME ≡ DIFF → ⊥
-same-not-diff e = let z : _≡_ {A = ℕ} 0 1 = cc in omega arith
-
 module _ (sheet : Sheet) (p q : Configuration) where
   -- the result's round is one
   one-result : {n m : ℕ} {seeds : List Configuration} → ResultRound sheet seeds n → ResultRound sheet seeds m → n ≡ m
-  one-result {n} {m} x y = go (tested (ltb n m)) (tested (ltb m n))
-    where
-      go : Tested (ltb n m) → Tested (ltb m n) → n ≡ m
-      go (passes a) _ = absurd (y .first n (ltb-true n m a) (x .stable))
-      go (fails a) (passes b) = absurd (x .first m (ltb-true m n b) (y .stable))
-      go (fails a) (fails b) = omega (arith, ltb-false n m a, ltb-false m n b)
+  one-result {n} {m} x y = neither-below n m (λ h. y .first n h (x .stable)) (λ h. x .first m h (y .stable))
 
   -- two members at places share a class exactly when they are bisimilar
   module _ (r : Report) (a : Faithful sheet p q r) where
@@ -136,15 +120,11 @@ module _ (sheet : Sheet) (p q : Configuration) where
 
     -- a start stands at one place
     place-one : (x : Configuration) (i j : ℕ) → i < length (r .members) → getD (r .members) i x ≡ x → j < length (s .members) → getD (s .members) j x ≡ x → i ≡ j
-    place-one x i j l e k f = go (tested (ltb i j)) (tested (ltb j i))
-      where
-        here : getD (r .members) j x ≡ x
-        here = ap (λ (m : List Configuration). getD m j x) members-one ∙ f
-
-        go : Tested (ltb i j) → Tested (ltb j i) → i ≡ j
-        go (passes t) _ = absurd (places-apart (r .members) (a .ordered) x i j (ltb-true i j t) (omega (arith, k, many-one)) (e ∙ sym here))
-        go (fails t) (passes u) = absurd (places-apart (r .members) (a .ordered) x j i (ltb-true j i u) l (here ∙ sym e))
-        go (fails t) (fails u) = omega (arith, ltb-false i j t, ltb-false j i u)
+    place-one x i j l e k f =
+        let here : getD (r .members) j x ≡ x = ap (λ (m : List Configuration). getD m j x) members-one ∙ f in
+        neither-below i j
+        (λ h. places-apart (r .members) (a .ordered) x i j h (omega (arith, k, many-one)) (e ∙ sym here))
+        (λ h. places-apart (r .members) (a .ordered) x j i h l (here ∙ sym e))
 
     left-one : r .leftPlace ≡ s .leftPlace
     left-one = place-one p (r .leftPlace) (s .leftPlace) (a .left-place .0) (a .left-place .1) (b .left-place .0) (b .left-place .1)

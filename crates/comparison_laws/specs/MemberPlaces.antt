@@ -3,11 +3,8 @@ use mathlib.Core.Path.{_≡_, sym, _∙_, subst}
 use mathlib.Core.Bool.{true}
 use mathlib.Core.List.{List}
 use Prim.Native.Nat.{ℕ, _<_}
-use native.Mathlib.Omega.{arith}
 use lib.ListN.{length, getD}
-use lib.Dec.{ltb}
-use borrow.Author.Tests.{ltb-true, ltb-false}
-use Rattle.list_laws.specs.TestLaws.{Tested, passes, fails, tested}
+use Rattle.list_laws.specs.TestLaws.{neither-below}
 use Rattle.lists.specs.Lists.{Ascends}
 use Rattle.list_laws.specs.ListPlaces.{getD-in, getD-any, ascends-places}
 use Rattle.sheets.specs.Sheet.{Configuration}
@@ -30,9 +27,5 @@ place-of-member set asc d i l =
     let p : Configuration = getD set i d in
     let j : ℕ = placeOf set p in
     let k : j < length set = placeOf-lt set p (getD-in set i d l) in
-    go j k (getD-any set j d p k ∙ placeOf-at set p (getD-in set i d l)) (tested (ltb j i)) (tested (ltb i j))
-  where
-    go : (j : ℕ) → j < length set → getD set j d ≡ getD set i d → Tested (ltb j i) → Tested (ltb i j) → j ≡ i
-    go j b e (passes y) t = absurd (places-apart set asc d j i (ltb-true j i y) l e)
-    go j b e (fails y) (passes z) = absurd (places-apart set asc d i j (ltb-true i j z) b (sym e))
-    go j b e (fails y) (fails z) = omega (arith, ltb-false j i y, ltb-false i j z)
+    let e : getD set j d ≡ getD set i d = getD-any set j d p k ∙ placeOf-at set p (getD-in set i d l) in
+    neither-below j i (λ h. places-apart set asc d j i h l e) (λ h. places-apart set asc d i j h k (sym e))

@@ -8,8 +8,8 @@ use Prim.Native.Nat.{ℕ, zero, suc, _+_, _≤_, _<_}
 use native.Mathlib.Omega.{arith}
 use lib.ListN.{length, length-append, length-map}
 use lib.Dec.{eqb, leb, ltb}
-use borrow.Author.Tests.{eqb-true, eqb-false, ltb-true, lt-ltb, leb-true, leb-false}
-use Rattle.list_laws.specs.TestLaws.{true-false, and-left, and-right, and-intro, or-left, or-right, not-back, not-passes, Tested, tested, passes, fails}
+use borrow.Author.Tests.{eqb-true, eqb-false, ltb-true, lt-ltb, leb-true, leb-false, not-true}
+use Rattle.list_laws.specs.TestLaws.{true-false, and-left, and-right, and-intro, or-left, or-right, not-passes, Tested, tested, passes, fails}
 use Rattle.lists.specs.Lists.{select, any, concatMap, Ascends, arrange, Distinct, no-elements, one-more}
 use Rattle.list_laws.specs.Members.{mem-select, select-mem, any-yes, any-mem, mem-map, map-mem, mem-concatMap, concatMap-mem}
 use Rattle.list_laws.specs.AscendingLaws.{arrange-ascends, arrange-keeps, arrange-only}
@@ -170,7 +170,7 @@ module _ (sheet : Sheet) (l : Limits) (seeds : List Configuration) where
   -- ---- the limits
   pub fits-not-over : fits sheet l (explored sheet l seeds) ≡ true → over l (explored sheet l seeds) ≡ false
   fits-not-over h =
-      not-back (over l (explored sheet l seeds)) (and-left (not (over l (explored sheet l seeds))) (leb (moveCount sheet (explored sheet l seeds)) (l .moves)) h)
+      not-true (over l (explored sheet l seeds)) (and-left (not (over l (explored sheet l seeds))) (leb (moveCount sheet (explored sheet l seeds)) (l .moves)) h)
 
   -- every move of every member of a list
   abbrev memberMove : Configuration → Move → MemberMove

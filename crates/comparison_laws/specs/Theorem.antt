@@ -135,7 +135,8 @@ pub member-some : (xs : List Configuration) {p : Configuration} → List·Memᴰ
 member-some [] m = absurd (List·Memᴰ·not-nil m)
 member-some (x ∷ xs) m = omega arith
 
-same-not-diff : SAME ≡ DIFF → ⊥
+-- SAME is not DIFF
+pub same-not-diff : SAME ≡ DIFF → ⊥
 same-not-diff e = let z : _≡_ {A = ℕ} 0 1 = cc in omega arith
 
 module _ (sheet : Sheet) (wf : WellFormed sheet) (l : Limits) (p q : Configuration) (op : OfSheet sheet p) (oq : OfSheet sheet q)

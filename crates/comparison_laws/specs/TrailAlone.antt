@@ -2,14 +2,12 @@
 use mathlib.Core.Path.{_≡_, refl, sym, ap, ap₂, _∙_, subst}
 use mathlib.Core.Bool.{Bool, true, false}
 use mathlib.Core.List.{List, [], _∷_}
-use Prim.Native.Nat.{ℕ, suc, _<_}
+use Prim.Native.Nat.{ℕ, suc}
 use native.Mathlib.Omega.{arith}
-use lib.Dec.{ltb}
-use borrow.Author.Tests.{ltb-true, ltb-false}
-use Rattle.list_laws.specs.TestLaws.{Tested, tested, passes, fails}
+use Rattle.list_laws.specs.TestLaws.{neither-below}
 use Rattle.list_laws.specs.AscendingLaws.{Order}
 use Rattle.sheets.specs.Sheet.{Configuration, Sheet}
-use Rattle.moves.specs.Orders.{Move, configurationBefore, moveBefore}
+use Rattle.moves.specs.Orders.{Move}
 use Rattle.moves.specs.Moves.{Moves}
 use Rattle.move_laws.specs.OrderLaws.{configurationOrder, moveOrder}
 use Rattle.refinement.specs.Refinement.{Round, FirstApart}
@@ -23,12 +21,7 @@ module _ (sheet : Sheet) where
   -- two configurations are first separated in one round, or level
   pub one-first : (R : ℕ → Configuration → Configuration → Type 0) {n m : ℕ} {p q : Configuration} → FirstApart (transitions sheet) R n p q
       → FirstApart (transitions sheet) R m p q → n ≡ m
-  one-first R {n} {m} x y = go (tested (ltb n m)) (tested (ltb m n))
-    where
-      go : Tested (ltb n m) → Tested (ltb m n) → n ≡ m
-      go (passes a) _ = absurd (x .apart (y .together n (ltb-true n m a)))
-      go (fails a) (passes b) = absurd (y .apart (x .together m (ltb-true m n b)))
-      go (fails a) (fails b) = omega (arith, ltb-false n m a, ltb-false m n b)
+  one-first R {n} {m} x y = neither-below n m (λ h. x .apart (y .together n h)) (λ h. y .apart (x .together m h))
 
   -- of two things neither of which stands before the other
   neither : {A : Type 0} (O : Order A) (a b : A) → (O .before a b ≡ true → ⊥) → (O .before b a ≡ true → ⊥) → a ≡ b

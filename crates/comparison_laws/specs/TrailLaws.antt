@@ -8,8 +8,8 @@ use Prim.Native.Nat.{ℕ, zero, suc, _-_, _≤_, _<_}
 use native.Mathlib.Omega.{arith}
 use lib.ListN.{length, getD}
 use lib.Dec.{eqb, ltb}
-use borrow.Author.Tests.{eqb-true, eqb-false, eq-eqb, ltb-true, ltb-false, not-false}
-use Rattle.list_laws.specs.TestLaws.{and-left, and-right, or-right, or-false, same-test, not-passes, not-back, Tested, tested, passes, fails}
+use borrow.Author.Tests.{eqb-true, eqb-false, eq-eqb, ltb-true, ltb-false, not-false, not-true}
+use Rattle.list_laws.specs.TestLaws.{and-left, and-right, or-right, or-false, same-test, not-passes, Tested, tested, passes, fails}
 use Rattle.lists.specs.Lists.{select, Ascends, then-rest}
 use Rattle.list_laws.specs.Members.{mem-select, select-mem, any-no}
 use Rattle.list_laws.specs.AscendingLaws.{ascends-head, ascends-tail, not-both, none-before-head, select-ascends}
@@ -47,7 +47,7 @@ module _ (set : List Configuration) (rs : List (List ℕ)) (p q : Configuration)
 
   -- and apart in it, where there is one
   pub apart-at : apartIn set rs p q < length rs → share set (getD rs (apartIn set rs p q) []) p q ≡ false
-  apart-at l = not-back (share set (getD rs (apartIn set rs p q) []) p q) (position-at (λ c. not (share set c p q)) rs [] l .1)
+  apart-at l = not-true (share set (getD rs (apartIn set rs p q) []) p q) (position-at (λ c. not (share set c p q)) rs [] l .1)
 
 -- ---- replies
 pub highest-mem : (value : Configuration → ℕ) (best : Move) (ms : List Move) → List·Memᴰ (highest value best ms) (best ∷ ms)
@@ -136,8 +136,8 @@ module _ (sheet : Sheet) (set : List Configuration) (rs : List (List ℕ)) where
   unanswered-mem classes p q {m} h =
       let x = mem-select (λ m. not (redundant sheet set classes p m) && not (answers sheet set classes q m)) (moves sheet p) h in (
         x .0,
-        not-back (redundant sheet set classes p m) (and-left (not (redundant sheet set classes p m)) (not (answers sheet set classes q m)) (x .1)),
-        not-back (answers sheet set classes q m) (and-right (not (redundant sheet set classes p m)) (not (answers sheet set classes q m)) (x .1)),
+        not-true (redundant sheet set classes p m) (and-left (not (redundant sheet set classes p m)) (not (answers sheet set classes q m)) (x .1)),
+        not-true (answers sheet set classes q m) (and-right (not (redundant sheet set classes p m)) (not (answers sheet set classes q m)) (x .1)),
       )
 
   -- a reply is a move of the other with the mover's label

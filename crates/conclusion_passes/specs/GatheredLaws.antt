@@ -13,7 +13,6 @@ use lib.Dec.{eqb, ltb}
 use lib.ListN.{length, getD, set, drop, replicate, length-set, length-append, length-replicate, length-drop, getD-replicate, List·getD-append}
 use lib.Seq.{getD-set-same, getD-set-other, drop-at}
 use borrow.Author.Tests.{eqb-true, eqb-false, ltb-true, ltb-false}
-use Rattle.list_laws.specs.TestLaws.{Tested, tested, passes, fails}
 use Rattle.list_laws.specs.Frames.{SameOutside, outside-same, outside-set, outside-of-ends}
 use Rattle.list_laws.specs.TabulateLaws.{mem-tabulate, tabulate-mem}
 use Rattle.stores.specs.FactSets.{Within}
@@ -253,6 +252,13 @@ module _ (from half k : ℕ) (before table : List ℕ) (u : United from half k b
           let ne = eqb-false j k t in
           other (from + half + j) (λ e. omega arith) ∙ u .joined j (omega arith)
 
+  -- the same, the two places written in another way
+  pub united-at : (at of : ℕ) → at ≡ from + half + k → of ≡ from + k → United from half (k + 1) before (set table at (joinedAt table at of))
+  united-at at of e f =
+      subst (λ (n : ℕ). United from half (k + 1) before (set table n (joinedAt table n of))) (sym e)
+      (subst (λ (n : ℕ). United from half (k + 1) before (set table (from + half + k) (joinedAt table (from + half + k) n))) (sym f)
+      united-next)
+
 -- ---- all blocks
 pub spread-none : (b : ℕ) (table : List ℕ) → Spread b (2 * 0 * 2 ^ b) table table
 spread-none b table =
@@ -317,64 +323,19 @@ module _ (b q : ℕ) (before table after : List ℕ) (p : Spread b (2 * q * 2 ^ 
 pub pair-united : (q : ℕ) (table : List ℕ) → 2 * q + 1 < length table
     → United (2 * q * 2 ^ 0) (2 ^ 0) (2 ^ 0) table (set table (2 * q + 1) (bitOr (getD table (2 * q + 1) 0) (getD table (2 * q) 0)))
 pair-united q table h =
-    record {
-      long = length-set table (2 * q + 1) x;
-      joined = λ j l. joined j (omega arith) (omega arith);
-      under = λ s l. getD-set-other table (2 * q + 1) s x 0 (λ e. omega arith);
-      beyond = λ s l. getD-set-other table (2 * q + 1) s x 0 (λ e. omega arith);
-    }
-  where
-    x : ℕ
-    x = bitOr (getD table (2 * q + 1) 0) (getD table (2 * q) 0)
-
-    joined : (j : ℕ) → 2 * q * 2 ^ 0 + 2 ^ 0 + j ≡ 2 * q + 1 → 2 * q * 2 ^ 0 + j ≡ 2 * q
-        → getD (set table (2 * q + 1) x) (2 * q * 2 ^ 0 + 2 ^ 0 + j) 0
-        ≡ bitOr (getD table (2 * q * 2 ^ 0 + 2 ^ 0 + j) 0) (getD table (2 * q * 2 ^ 0 + j) 0)
-    joined j e f =
-        ap (λ (k : ℕ). getD (set table (2 * q + 1) x) k 0) e ∙ getD-set-same table (2 * q + 1) x 0 h
-        ∙ sym (ap₂ (λ (a b : ℕ). bitOr (getD table a 0) (getD table b 0)) e f)
+    united-at (2 * q * 2 ^ 0) (2 ^ 0) 0 table table (united-none (2 * q * 2 ^ 0) (2 ^ 0) table) (omega arith) (omega arith)
+    (2 * q + 1) (2 * q) (omega arith) (omega arith)
 
 -- the block of four with its last two joined
 pub four-united : (q : ℕ) (table : List ℕ) → 4 * q + 3 < length table
     → (t : List ℕ) → t ≡ set table (4 * q + 2) (bitOr (getD table (4 * q + 2) 0) (getD table (4 * q) 0))
     → United (2 * q * 2 ^ 1) (2 ^ 1) (2 ^ 1) table (set t (4 * q + 3) (bitOr (getD t (4 * q + 3) 0) (getD t (4 * q + 1) 0)))
 four-united q table h t is =
-    record {
-      long = length-set t (4 * q + 3) y ∙ long;
-      joined = λ j l. joined j l (tested (eqb j 0));
-      under = λ s l. getD-set-other t (4 * q + 3) s y 0 (λ e. omega arith) ∙ other s (λ e. omega arith);
-      beyond = λ s l. getD-set-other t (4 * q + 3) s y 0 (λ e. omega arith) ∙ other s (λ e. omega arith);
-    }
-  where
-    x : ℕ
-    x = bitOr (getD table (4 * q + 2) 0) (getD table (4 * q) 0)
-
-    y : ℕ
-    y = bitOr (getD t (4 * q + 3) 0) (getD t (4 * q + 1) 0)
-
-    long : length t ≡ length table
-    long = ap length is ∙ length-set table (4 * q + 2) x
-
-    other : (s : ℕ) → (s ≡ 4 * q + 2 → ⊥) → getD t s 0 ≡ getD table s 0
-    other s d = ap (λ (l : List ℕ). getD l s 0) is ∙ getD-set-other table (4 * q + 2) s x 0 d
-
-    joined : (j : ℕ) → j < 2 ^ 1 → Tested (eqb j 0)
-        → getD (set t (4 * q + 3) y) (2 * q * 2 ^ 1 + 2 ^ 1 + j) 0
-        ≡ bitOr (getD table (2 * q * 2 ^ 1 + 2 ^ 1 + j) 0) (getD table (2 * q * 2 ^ 1 + j) 0)
-    joined j l (passes z) =
-        let k : j ≡ 0 = eqb-true j 0 z in
-        let e : 2 * q * 2 ^ 1 + 2 ^ 1 + j ≡ 4 * q + 2 = omega arith in
-        let f : 2 * q * 2 ^ 1 + j ≡ 4 * q = omega arith in
-        ap (λ (k : ℕ). getD (set t (4 * q + 3) y) k 0) e ∙ getD-set-other t (4 * q + 3) (4 * q + 2) y 0 (λ e. omega arith)
-        ∙ ap (λ (l : List ℕ). getD l (4 * q + 2) 0) is ∙ getD-set-same table (4 * q + 2) x 0 (omega arith)
-        ∙ sym (ap₂ (λ (a b : ℕ). bitOr (getD table a 0) (getD table b 0)) e f)
-    joined j l (fails z) =
-        let d : j ≡ 0 → ⊥ = eqb-false j 0 z in
-        let e : 2 * q * 2 ^ 1 + 2 ^ 1 + j ≡ 4 * q + 3 = omega arith in
-        let f : 2 * q * 2 ^ 1 + j ≡ 4 * q + 1 = omega arith in
-        ap (λ (k : ℕ). getD (set t (4 * q + 3) y) k 0) e ∙ getD-set-same t (4 * q + 3) y 0 (omega (arith, long))
-        ∙ ap₂ (λ (a b : ℕ). bitOr a b) (other (4 * q + 3) (λ e. omega arith)) (other (4 * q + 1) (λ e. omega arith))
-        ∙ sym (ap₂ (λ (a b : ℕ). bitOr (getD table a 0) (getD table b 0)) e f)
+    let first : United (2 * q * 2 ^ 1) (2 ^ 1) 1 table t =
+    subst (United (2 * q * 2 ^ 1) (2 ^ 1) 1 table) (sym is)
+    (united-at (2 * q * 2 ^ 1) (2 ^ 1) 0 table table (united-none (2 * q * 2 ^ 1) (2 ^ 1) table) (omega arith) (omega arith)
+    (4 * q + 2) (4 * q) (omega arith) (omega arith)) in
+    united-at (2 * q * 2 ^ 1) (2 ^ 1) 1 table t first (omega arith) (omega arith) (4 * q + 3) (4 * q + 1) (omega arith) (omega arith)
 
 pub spread-outside : {b bound : ℕ} {before after : List ℕ} → Spread b bound before after → SameOutside 0 bound before after
 spread-outside {b} {bound} {before} {after} p = record { long = p .long; at = go }

@@ -4,7 +4,6 @@ use mathlib.Core.Logic.{_⊎_, inl, inr}
 use mathlib.Core.Bool.{Bool, true, false, not, _&&_}
 use mathlib.Core.List.{List}
 use Prim.Native.Nat.{ℕ, _+_, _*_, _/_, _%_, _≤_, _<_}
-use native.Mathlib.Numerals.{add-one}
 use native.Mathlib.Omega.{arith}
 use lib.ListN.{length, getD, set}
 use lib.Seq.{getD-set-same, getD-set-other}
@@ -21,7 +20,8 @@ use Rattle.comparison.specs.Rounds.{redundant}
 use Rattle.kept_classes.specs.DominatingMoves.{dominates, Passed, passed-one, passed-own, kept-redundant}
 use Rattle.dominators.specs.FoundMembers.{LiftedAt}
 use Rattle.dominators.specs.KeptMoves.{noMove, moveOf, Shows, MoveKept, MemberHeld, span-count, shows-dominates, lifted-shows, not-below-passed}
-use Rattle.dominators.specs.SliceShapes.{KeptFits, keptAt, targetAt, Stands}
+use Rattle.dominance_tests.specs.KeptNumbers.{KeptFits}
+use Rattle.dominators.specs.SliceShapes.{keptAt, targetAt, Stands}
 use Rattle.work_layout.specs.WorkLayout.{movesAt, dominatorsAt, classesAt}
 use Rattle.work_layout.specs.ClassLayout.{classIn}
 
@@ -91,8 +91,7 @@ module _ (w : List ℕ) (n first j k : ℕ) where
           ap (dominates sheet set numbers (moveOf sheet p j))
           (getD-any (moves sheet p) at (moveOf sheet p j) noMove (omega (arith, span-count M))) ∙ f in (
             omega arith,
-            subst (Passed sheet set numbers (moves sheet p) (moveOf sheet p j)) (sym (add-one at))
-                (passed-one sheet set numbers (moves sheet p) (moveOf sheet p j) at (q .1) g),
+            passed-one sheet set numbers (moves sheet p) (moveOf sheet p j) at (q .1) g,
           )
         where
           by : (comesBelow w (getD w (movesAt + first + at) 0) (getD w (movesAt + first + j) 0) ≡ false)
@@ -208,7 +207,7 @@ module _ (w : List ℕ) (n first j kept : ℕ) (t : ℕ) (is : kept ≡ getD w (
             (getD-any (moves sheet p) (kept / 65536) (moveOf sheet p j) noMove (omega (arith, span-count M, x .0)))
             ∙ shows-dominates M j (kept / 65536) (kept % 65536) jt (omega (arith, x .0)) (x .1) ∙ c in (
               omega (arith, x .0),
-              subst (Passed sheet set numbers (moves sheet p) (moveOf sheet p j)) (sym (z ∙ add-one (kept / 65536)))
+              subst (Passed sheet set numbers (moves sheet p) (moveOf sheet p j)) (sym z)
                   (passed-one sheet set numbers (moves sheet p) (moveOf sheet p j) (kept / 65536) (K .passed) g),
             )
 

@@ -1,5 +1,4 @@
 pub mod FoundMembers
-pub mod LowerMoves
 pub mod KeptMoves
 pub mod SliceShapes
 pub mod DominatorSearch

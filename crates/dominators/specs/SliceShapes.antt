@@ -10,13 +10,10 @@ use Rattle.list_laws.specs.Tabulate.{tabulate-same}
 use Rattle.sheets.specs.Sheet.{Configuration, Sheet}
 use Rattle.work_layout.specs.SetLayout.{firstMove, moveTotal, SetHeld}
 use Rattle.kept_classes.specs.RoundLayout.{SameSet, held-same, held-member-same, held-first-same, held-total-same, number-in, held-count}
+use Rattle.dominance_tests.specs.KeptNumbers.{KeptFits}
 use Rattle.dominators.specs.KeptMoves.{DominatorsKept, RoundHeld, MemberHeld}
 use Rattle.work_layout.specs.WorkLayout.{workEnd, spansAt, movesAt, dominatorsAt, lineTotalsAt, classesAt, linesAt}
 use Rattle.work_layout.specs.ClassLayout.{classIn, classesIn}
-
--- a kept number has a place of the slice's classes in its lower half, or what stands for none
-abbrev pub KeptFits : ℕ → Type 0
-KeptFits kept = (kept % 65536 ≡ 65535 → ⊥) → kept % 65536 ≤ 512
 
 -- the number that is kept for the move at place j, and the place of its target
 abbrev pub keptAt : List ℕ → ℕ → ℕ → ℕ

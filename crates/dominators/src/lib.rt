@@ -1,22 +1,19 @@
-// The dominating move that is kept for each move from round to round: members found by their numbers, moves that come below others,
-// and whether a move is irredundant in the present classes. Each pair of moves is tried once in all rounds.
+// The dominating move that is kept for each move from round to round: members found by their numbers, and whether a move is
+// irredundant in the present classes. Each pair of moves is tried once in all rounds.
+use dominance_tests::comes_below;
+use dominance_tests::look_from;
+use dominance_tests::still_dominated;
 use packing::Numbers;
 use work_layout::DOMINATORS;
 use work_layout::MOVES;
 use work_layout::NONE;
-ghost use mathlib.Core.Path.{_≡_};
-ghost use mathlib.Core.Bool.{_&&_, not};
-ghost use Prim.Native.Nat.{_+_, _*_, _/_, _%_, _≤_, _<_};
+ghost use Prim.Native.Nat.{_+_, _%_, _≤_, _<_};
 ghost use lib.ListN.{length};
-ghost use lib.Dec.{eqb};
-ghost use Rattle.stores.specs.Stores.{strictlyBelow, includes};
-ghost use Rattle.work_layout.specs.SetLayout.{memberAt};
 ghost use Rattle.dominators.specs.FoundMembers.{FoundAt, LiftedAt};
-ghost use Rattle.dominators.specs.SliceShapes.{KeptFits, SpanFits};
+ghost use Rattle.dominators.specs.SliceShapes.{SpanFits};
 ghost use Rattle.dominators.specs.DominatorSearch.{DominatedBy, LookedFrom, Judged};
 ghost use Rattle.dominators.specs.ForgottenMoves.{Forgotten};
 ghost use Rattle.work_layout.specs.WorkLayout.{workEnd};
-ghost use Rattle.work_layout.specs.ClassLayout.{classIn};
 
 // The place of the member of these numbers, by halving.
 pub fn find_member(work: &[u32], n: usize, x: Numbers) -> usize
@@ -55,25 +52,6 @@ pub fn find_lifted(work: &[u32], n: usize, t: usize, u: usize) -> usize
     )
 }
 
-// Whether move x has a label strictly below that of y, and a target whose store is inside that of y's.
-pub fn comes_below(work: &[u32], x: u32, y: u32) -> bool
-    requires { ⌜ (x % 65536 ≤ 512) × (y % 65536 ≤ 512) × (workEnd ≤ length (now work)) ⌝ }
-    ensures { λ r. ⌜ r ≡ (strictlyBelow (x / 65536) (y / 65536)
-        && includes (memberAt (now (work .entry)) (y % 65536) .store) (memberAt (now (work .entry)) (x % 65536) .store)) ⌝ }
-{
-    let a = x / 65536;
-    let b = y / 65536;
-    if a == b {
-        return false;
-    }
-    if a & b != a {
-        return false;
-    }
-    let s = work_layout::store_at(work, (x % 65536) as usize);
-    let t = work_layout::store_at(work, (y % 65536) as usize);
-    s & t == s
-}
-
 // Whether move x dominates y in the present classes: the place of the member that shows it, or NONE.
 fn dominated_by(work: &[u32], n: usize, x: u32, y: u32) -> u32
     requires { ⌜ (n ≤ 512) × (x % 65536 < n) × (y % 65536 < n) × (workEnd ≤ length (now work)) ⌝ }
@@ -107,27 +85,6 @@ fn dominator_from(work: &[u32], n: usize, first: usize, j: usize, k: usize) -> u
         i += 1;
     }
     (j as u32) * 65536 + NONE
-}
-
-// Whether the kept dominating move still dominates a move into t.
-fn still_dominated(work: &[u32], kept: u32, t: usize) -> bool
-    requires { ⌜ KeptFits kept × (t ≤ 512) × (workEnd ≤ length (now work)) ⌝ }
-    ensures { λ r. ⌜ r ≡ (not (eqb (kept % 65536) 65535)
-        && eqb (classIn (now (work .entry)) (kept % 65536)) (classIn (now (work .entry)) t)) ⌝ }
-{
-    let q = kept % 65536;
-    if q == NONE {
-        return false;
-    }
-    work_layout::class_at(work, q as usize) == work_layout::class_at(work, t)
-}
-
-// The place from which a dominating move is to be looked for.
-fn look_from(kept: u32) -> usize
-    ensures { λ r. ⌜ (kept % 65536 ≡ 65535 → r ≡ kept / 65536) × ((kept % 65536 ≡ 65535 → ⊥) → r ≡ kept / 65536 + 1) ⌝ }
-{
-    let k = (kept / 65536) as usize;
-    if kept % 65536 == NONE { k } else { k + 1 }
 }
 
 // Whether the move at place j is irredundant in the present classes. The dominating move that was found is kept.

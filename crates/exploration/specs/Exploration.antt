@@ -19,16 +19,13 @@ use Rattle.set_growth.specs.SetGrowth.{Growth, InSet}
 use Rattle.walk_state.specs.declared.Basis.{Basis}
 use Rattle.walk_state.specs.WalkState.{MemberFits}
 use Rattle.set_order.specs.OrderedSet.{spanFirst, spanTotal, spanMoves, SpanFits}
+use Rattle.unexplored_members.specs.UnexploredMembers.{IsExplored}
 use Rattle.exploration.specs.declared.Plan.{Plan}
 use Rattle.work_layout.specs.WorkLayout.{spansAt}
 
 -- what stays the same for a member with this store, whose moves begin here
 abbrev pub basisOf : Plan → ℕ → ℕ → Basis
 basisOf plan store first = record { facts = plan .facts; nodes = plan .nodes; store = store; first = first; caps = plan .caps }
-
--- a member is explored: its span is stored
-abbrev pub IsExplored : List ℕ → ℕ → Type 0
-IsExplored w id = 0 < getD w (spansAt + id) 0
 
 -- Members and spans are in order, and no moves are in hand: every member below the lowest place is explored, and the moves of
 -- explored members stand in places of their own.

@@ -14,8 +14,9 @@ use Rattle.ask_labels.specs.LabelShelfLaws.{shelved-none}
 use Rattle.collected_moves.specs.declared.Running.{Running}
 use Rattle.set_growth.specs.SetGrowth.{Growth}
 use Rattle.exploration.specs.declared.Plan.{Plan}
+use Rattle.unexplored_members.specs.UnexploredMembers.{NextPlace}
 use Rattle.exploration.specs.Exploration.{Exploring, ExploredFor}
-use Rattle.exploration.specs.ExplorationSteps.{OnPlan, storeIn, NextPlace, MemberOn, ExploredOver, ExploredOn}
+use Rattle.exploration.specs.ExplorationSteps.{OnPlan, storeIn, MemberOn, ExploredOver, ExploredOn}
 use Rattle.exploration.specs.MemberExplored.{plan-kept}
 use Rattle.exploration.specs.ExploredPlaces.{fromLow, explored-for-from, all-explored}
 use Rattle.work_layout.specs.WorkLayout.{workEnd, spansAt}

@@ -1,9 +1,10 @@
 -- What the steps of exploring ask and promise.
 use mathlib.Core.Path.{_≡_}
 use mathlib.Core.List.{List}
-use Prim.Native.Nat.{ℕ, _+_, _*_, _-_, _≤_, _<_}
+use Prim.Native.Nat.{ℕ, _+_, _*_, _-_, _<_}
 use lib.ListN.{getD}
 use Rattle.list_laws.specs.Frames.{SameOutside}
+use Rattle.list_laws.specs.PlacesPassed.{FirstPlace}
 use Rattle.sheets.specs.Sheet.{Node}
 use Rattle.comparison.specs.Promise.{PassesLimit}
 use Rattle.ask_labels.specs.declared.Shelf.{Shelf}
@@ -14,16 +15,13 @@ use Rattle.collected_moves.specs.declared.Noted.{Noted}
 use Rattle.collected_moves.specs.declared.Noted.the-variants as noted
 use Rattle.collected_moves.specs.CollectedMoves.{memberPart}
 use Rattle.set_growth.specs.SetGrowth.{Growth}
+use Rattle.walk_state.specs.declared.Walked.{Walked}
+use Rattle.walk_state.specs.declared.Walked.the-variants as walked
 use Rattle.walk_state.specs.WalkState.{OnSheet}
 use Rattle.exploration.specs.declared.Plan.{Plan}
-use Rattle.exploration.specs.declared.Explored.{Explored}
-use Rattle.exploration.specs.declared.Explored.the-variants as explored
-use Rattle.exploration.specs.Exploration.{basisOf, IsExplored, Exploring, ExploredFor}
+use Rattle.unexplored_members.specs.UnexploredMembers.{IsExplored}
+use Rattle.exploration.specs.Exploration.{basisOf, Exploring, ExploredFor}
 use Rattle.work_layout.specs.WorkLayout.{workEnd, spansAt}
-
--- the number that is stored for a member's moves
-abbrev pub spanOf : ℕ → ℕ → ℕ
-spanOf first end = first * 65536 + (end - first) + 1
 
 -- the store of a member
 abbrev pub storeIn : List ℕ → ℕ → ℕ
@@ -32,12 +30,6 @@ storeIn w id = memberIn (memberPart w) id .store
 -- the sheet of a growth is the one that is explored
 abbrev pub OnPlan : Growth → List Node → Plan → List ℕ → Type 0
 OnPlan g nodes plan w = OnSheet g nodes (basisOf plan 0 0) w
-
--- the lowest place from `low` on whose member is unexplored; n where there is none
-pub record NextPlace (w : List ℕ) (low n j : ℕ) : Type 0 where
-  pub within : (low ≤ j) × (j ≤ n)
-  pub passed : (i : ℕ) → low ≤ i → i < j → IsExplored w (idIn (memberPart w) i)
-  pub here : j < n → getD w (spansAt + idIn (memberPart w) j) 0 ≡ 0
 
 -- ---- one member
 -- the member with this id was explored, and no other
@@ -55,9 +47,9 @@ pub record ExploredOver (nodes : List Node) (plan : Plan) (v : List ℕ) (s : Ru
   pub outside : SameOutside spansAt workEnd v w
 
 -- by the answer
-abbrev pub MemberExplored : List Node → Plan → List ℕ → Running → ℕ → List ℕ → Explored → Type 0
-MemberExplored nodes plan v s id w (explored.On t shelf) = MemberOn nodes plan v s id w t shelf
-MemberExplored nodes plan v s id w explored.Over = ExploredOver nodes plan v s w
+abbrev pub MemberExplored : List Node → Plan → List ℕ → Running → ℕ → List ℕ → Walked → Type 0
+MemberExplored nodes plan v s id w (walked.On t) = MemberOn nodes plan v s id w (t .running) (t .shelf)
+MemberExplored nodes plan v s id w walked.Over = ExploredOver nodes plan v s w
 
 -- ---- all members
 -- every member is explored

@@ -2,7 +2,7 @@
 use mathlib.Core.Path.{_≡_, refl, sym, subst}
 use mathlib.Core.Bool.{Bool, true, false}
 use mathlib.Core.List.{List}
-use Prim.Native.Nat.{ℕ, _+_, _≤_, _<_}
+use Prim.Native.Nat.{ℕ, _≤_, _<_}
 use native.Mathlib.Omega.{arith}
 use lib.Dec.{ltb}
 use borrow.Author.Tests.{ltb-true, ltb-false}
@@ -13,20 +13,8 @@ use Rattle.collected_moves.specs.CollectedMoves.{memberPart}
 use Rattle.collected_moves.specs.CollectedLaws.{collecting-empty}
 use Rattle.set_growth.specs.SetGrowth.{Growth}
 use Rattle.exploration.specs.declared.Plan.{Plan}
-use Rattle.exploration.specs.Exploration.{IsExplored, Exploring, ExploredFor}
-use Rattle.exploration.specs.ExplorationSteps.{NextPlace}
-
--- one place more
-pub passed-next : (w : List ℕ) (low j : ℕ) → ((i : ℕ) → low ≤ i → i < j → IsExplored w (idIn (memberPart w) i))
-    → IsExplored w (idIn (memberPart w) j) → (i : ℕ) → low ≤ i → i < j + 1 → IsExplored w (idIn (memberPart w) i)
-passed-next w low j f e i h l = go (ltb i j) refl
-  where
-    go : (b : Bool) → ltb i j ≡ b → IsExplored w (idIn (memberPart w) i)
-    go true q = f i h (ltb-true i j q)
-    go false q =
-        let z : j ≤ i = ltb-false i j q in
-        let k : j ≡ i = omega arith in
-        subst (λ (n : ℕ). IsExplored w (idIn (memberPart w) n)) k e
+use Rattle.unexplored_members.specs.UnexploredMembers.{IsExplored, NextPlace}
+use Rattle.exploration.specs.Exploration.{Exploring, ExploredFor}
 
 -- the running numbers with another lowest place
 abbrev pub fromLow : Running → ℕ → Running

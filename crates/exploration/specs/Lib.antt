@@ -3,5 +3,4 @@ pub mod ExplorationSteps
 pub mod SpanLaws
 pub mod MemberExplored
 pub mod ExploredPlaces
-pub mod Unexplored
 pub mod ExplorationLaws

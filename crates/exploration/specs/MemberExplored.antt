@@ -40,10 +40,9 @@ use Rattle.member_moves.specs.MovesFound.{Collected, FoundOn, FoundOver, MovesF
 use Rattle.third_rule.specs.ThirdRule.{Standing, OnTable, AllAddedOn, AddedOver, AllAdded}
 use Rattle.set_order.specs.OrderedSet.{spanMoves}
 use Rattle.exploration.specs.declared.Plan.{Plan}
-use Rattle.exploration.specs.declared.Explored.{Explored}
-use Rattle.exploration.specs.declared.Explored.the-variants as explored
-use Rattle.exploration.specs.Exploration.{basisOf, IsExplored, Exploring, Done, Counted, ExploredFor}
-use Rattle.exploration.specs.ExplorationSteps.{spanOf, OnPlan, storeIn, MemberOn, ExploredOver, MemberExplored}
+use Rattle.unexplored_members.specs.UnexploredMembers.{spanOf, IsExplored}
+use Rattle.exploration.specs.Exploration.{basisOf, Exploring, Done, Counted, ExploredFor}
+use Rattle.exploration.specs.ExplorationSteps.{OnPlan, storeIn, MemberOn, ExploredOver, MemberExplored}
 use Rattle.exploration.specs.SpanLaws.{fits-carried, spanned, other-span, span-outside, spanned-outside, members-spanned, member-spanned, now-explored, explored-before, own-moves, others-moves, spanned-exploring}
 use Rattle.work_layout.specs.WorkLayout.{workEnd, spansAt, marksAt}
 
@@ -425,10 +424,9 @@ module _ {b : Basis} {v : List ℕ} {s : Running} {w : List ℕ} {r : Noted} whe
   pub added-over : r ≡ noted.Over → AllAdded b v s w r → AddedOver b v s w
   added-over e h = subst (AllAdded b v s w) e h
 
-module _ (nodes : List Node) (plan : Plan) (v : List ℕ) (s : Running) (id : ℕ) (w : List ℕ) (r : Explored) where
-  pub one-on : {t : Running} {shelf : Shelf} → r ≡ explored.On t shelf → MemberExplored nodes plan v s id w r
-      → MemberOn nodes plan v s id w t shelf
+module _ (nodes : List Node) (plan : Plan) (v : List ℕ) (s : Running) (id : ℕ) (w : List ℕ) (r : Walked) where
+  pub one-on : {t : Walk} → r ≡ walked.On t → MemberExplored nodes plan v s id w r → MemberOn nodes plan v s id w (t .running) (t .shelf)
   one-on e h = subst (MemberExplored nodes plan v s id w) e h
 
-  pub one-over : r ≡ explored.Over → MemberExplored nodes plan v s id w r → ExploredOver nodes plan v s w
+  pub one-over : r ≡ walked.Over → MemberExplored nodes plan v s id w r → ExploredOver nodes plan v s w
   one-over e h = subst (MemberExplored nodes plan v s id w) e h

@@ -26,8 +26,8 @@ use Rattle.walk_state.specs.WalkState.{MemberFits}
 use Rattle.third_rule.specs.ThirdRule.{Standing}
 use Rattle.set_order.specs.OrderedSet.{spanFirst, spanTotal, spanNumbers, spanMoves, SpanFits}
 use Rattle.exploration.specs.declared.Plan.{Plan}
-use Rattle.exploration.specs.Exploration.{basisOf, IsExplored, Exploring}
-use Rattle.exploration.specs.ExplorationSteps.{spanOf}
+use Rattle.unexplored_members.specs.UnexploredMembers.{spanOf, IsExplored}
+use Rattle.exploration.specs.Exploration.{basisOf, Exploring}
 use Rattle.work_layout.specs.WorkLayout.{workEnd, spansAt, movesAt, membersAt}
 
 -- maps that agree on the elements of a list give the same list

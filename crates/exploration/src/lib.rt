@@ -8,41 +8,22 @@ use walk_state::Basis;
 use walk_state::Walk;
 use walk_state::Walked;
 use work_layout::MEMBERS;
-use work_layout::SPANS;
 ghost use mathlib.Core.Path.{_≡_};
-ghost use mathlib.Core.Bool.{cond};
-ghost use Prim.Native.Nat.{_+_, _≤_, _<_};
-ghost use lib.Dec.{eqb};
-ghost use lib.ListN.{length, getD, set};
+ghost use Prim.Native.Nat.{_+_, _<_};
+ghost use lib.ListN.{getD};
 ghost use Rattle.sheet_laws.specs.Ranks.{rankOf};
 ghost use Rattle.movable_nodes.specs.Movability.{nodesHeld};
-ghost use Rattle.member_table.specs.MemberTable.{Kept};
-ghost use Rattle.ask_labels.specs.LabelShelf.{Shelved, noEntries};
-ghost use Rattle.collected_moves.specs.CollectedMoves.{memberPart};
+ghost use Rattle.ask_labels.specs.LabelShelf.{Shelved};
 ghost use Rattle.walk_state.specs.WalkState.{NodesLent};
 ghost use Rattle.exploration.specs.Exploration.{basisOf, Exploring};
-ghost use Rattle.exploration.specs.ExplorationSteps.{spanOf, storeIn, NextPlace, MemberExplored, SetExplored};
-ghost use Rattle.work_layout.specs.WorkLayout.{workEnd, spansAt};
+ghost use Rattle.exploration.specs.ExplorationSteps.{storeIn, MemberExplored, SetExplored};
+ghost use Rattle.work_layout.specs.WorkLayout.{spansAt};
 
 // What stays the same while the set is explored: how many facts and nodes the sheet has, and the caps.
 pub struct Plan {
     pub facts: u16,
     pub nodes: usize,
     pub caps: Caps,
-}
-
-// Members and moves with the shelf of labels after a member was explored, or that a cap is passed.
-pub enum Explored {
-    On(Running, Shelf),
-    Over,
-}
-
-// Stores where the moves of a member stand.
-fn put_span(work: &mut [u32], id: usize, first: usize, end: usize)
-    requires { ⌜ (id < 512) × (first ≤ end) × (end ≤ 4096) × (workEnd ≤ length (now work)) ⌝ }
-    ensures { λ _. ⌜ now (work .exit) ≡ set (now (work .entry)) (spansAt + id) (spanOf first end) ⌝ }
-{
-    work[SPANS + id] = (first as u32) * 65536 + (end - first) as u32 + 1;
 }
 
 // One member: its moves, and what is added.
@@ -58,7 +39,7 @@ fn explore_member(
     id: usize,
     s: Running,
     shelf: Shelf,
-) -> Explored
+) -> Walked
     requires { ⌜ NodesLent rankOf (now kinds) (now firsts) (now seconds) (now counts) (now threads) (now movables) (basisOf plan 0 0)
         × Exploring (now work) plan s × (id < s .members) × (getD (now work) (spansAt + id) 0 ≡ 0)
         × Shelved (now work) (plan .facts) (storeIn (now work) id) shelf ⌝ }
@@ -95,50 +76,21 @@ fn explore_member(
         begun,
     );
     let Walked::On(t) = r else {
-        return Explored::Over;
+        return Walked::Over;
     };
     let running = t.running;
     let kept = t.shelf;
     let q = third_rule::add_labels(work, b, running);
     let Noted::On(u) = q else {
-        return Explored::Over;
+        return Walked::Over;
     };
-    put_span(work, id, first, u.moves);
-    Explored::On(u, kept)
-}
-
-// Whether a member is unexplored: no span is stored.
-fn unexplored(work: &[u32], id: usize) -> bool
-    requires { ⌜ (id < 512) × (workEnd ≤ length (now work)) ⌝ }
-    ensures { λ r. ⌜ r ≡ eqb (getD (now (work .entry)) (spansAt + id) 0) 0 ⌝ }
-{
-    work[SPANS + id] == 0
-}
-
-// The lowest place from `low` on whose member is unexplored; n where there is none.
-fn next_place(work: &[u32], low: usize, n: usize) -> usize
-    requires { ⌜ Kept (memberPart (now work)) n × (low ≤ n) × (workEnd ≤ length (now work)) ⌝ }
-    ensures { λ r. ⌜ NextPlace (now (work .entry)) low n r ⌝ }
-{
-    let mut j = low;
-    while j < n {
-        let id = member_table::id_at(work, MEMBERS, n, j);
-        if unexplored(work, id) {
-            return j;
-        }
-        j += 1;
-    }
-    n
-}
-
-// The shelf, with no entries where the store is another.
-fn shelf_for(shelf: Shelf, store: u32, other: u32) -> Shelf
-    ensures { λ r. ⌜ r ≡ cond (eqb store other) shelf noEntries ⌝ }
-{
-    if store == other {
-        return shelf;
-    }
-    Shelf { sets: 0, used: 0 }
+    unexplored_members::put_span(work, id, first, u.moves);
+    Walked::On(Walk {
+        running: u,
+        shelf: kept,
+        marks: 0,
+        top: 0,
+    })
 }
 
 // Explores until every member is explored.
@@ -163,13 +115,13 @@ pub fn explore(
     let mut store: u32 = 65536;
     loop {
         let n = run.members;
-        let j = next_place(work, run.low, n);
+        let j = unexplored_members::next_place(work, run.low, n);
         if j == n {
             return Noted::On(run);
         }
         let id = member_table::id_at(work, MEMBERS, n, j);
         let d = member_table::store_of(work, MEMBERS, n, id) as u32;
-        let fit = shelf_for(shelf, store, d);
+        let fit = ask_labels::shelf_for(shelf, store, d);
         let from = Running {
             members: n,
             moves: run.moves,
@@ -188,11 +140,11 @@ pub fn explore(
             from,
             fit,
         );
-        let Explored::On(next, kept) = r else {
+        let Walked::On(next) = r else {
             return Noted::Over;
         };
-        run = next;
-        shelf = kept;
+        run = next.running;
+        shelf = next.shelf;
         store = d;
     }
 }

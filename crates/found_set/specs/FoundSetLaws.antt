@@ -19,7 +19,8 @@ use Rattle.set_order.specs.SetOrderSteps.{ArrangedAll}
 use Rattle.exploration.specs.declared.Plan.{Plan}
 use Rattle.exploration.specs.ExplorationSteps.{ExploredOn, ExploredOver, SetExplored}
 use Rattle.sheets.specs.Sheet.{Node}
-use Rattle.found_set.specs.FoundSet.{limitsOf, planOf, SeedsFit, Cleared, SeededOn, SeededOver, SetWhole, SetPasses}
+use Rattle.seed_members.specs.Seeds.{Cleared, SeededOn, SeededOver}
+use Rattle.found_set.specs.FoundSet.{limitsOf, planOf, SeedsFit, SetWhole, SetPasses}
 use Rattle.found_set.specs.LentSheetLaws.{growthOf, growth-sound, filled-outside, begins-on, begins-for, begins-outside}
 use Rattle.found_set.specs.WholeSetLaws.{all-discovered, set-fits, set-held}
 use Rattle.work_layout.specs.WorkLayout.{workEnd}

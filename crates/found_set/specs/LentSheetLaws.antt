@@ -1,19 +1,16 @@
 -- What is lent of a sheet, and where exploring begins.
 use mathlib.Core.Path.{_≡_, refl, sym, ap, _∙_, subst}
 use mathlib.Core.Logic.{inl}
-use mathlib.Core.Bool.{Bool, true, false}
 use mathlib.Core.List.{List, [], _∷_, List·Memᴰ, List·Memᴰ·not-nil}
-use Prim.Native.Nat.{ℕ, zero, suc, _+_, _^_, _≤_, _<_}
+use Prim.Native.Nat.{ℕ, _+_, _^_, _≤_, _<_}
 use native.Mathlib.Omega.{arith}
-use lib.ListN.{length, getD, drop, length-drop, List·getD-eq-default}
-use lib.Dec.{ltb}
-use borrow.Author.Tests.{ltb-true, ltb-false}
+use lib.ListN.{length, getD, drop, length-drop}
 use Rattle.lists.specs.Lists.{no-elements}
 use Rattle.list_laws.specs.Frames.{SameOutside, outside-of-ends, outside-wider, outside-again}
 use Rattle.list_laws.specs.Tabulate.{tabulate-length}
 use Rattle.list_laws.specs.TabulateLaws.{tabulate-mem}
 use Rattle.stores.specs.Stores.{Constraint}
-use Rattle.sheets.specs.Sheet.{Node, stop, tell, ask, nodeOf, openingOf, openWithin, opened}
+use Rattle.sheets.specs.Sheet.{tell, ask, nodeOf}
 use Rattle.sheets.specs.Sheet as spec
 use Rattle.sheets.specs.WellFormed.{OfSheet, NodeFits, Admissible}
 use Rattle.refinement.specs.Refinement.{seed}
@@ -31,11 +28,13 @@ use Rattle.collected_moves.specs.declared.Running.{Running}
 use Rattle.collected_moves.specs.CollectedLaws.{collecting-empty}
 use Rattle.set_growth.specs.SetGrowth.{Growth, Sound}
 use Rattle.sheet_laws.specs.Ranks.{rankOf}
+use Rattle.sheet_laws.specs.OpeningLaws.{opened-inside}
 use Rattle.sheet_laws.specs.ReadingLaws.{well-formed-ranked}
 use Rattle.walk_state.specs.WalkState.{NodesLent, MemberFits}
 use Rattle.exploration.specs.Exploration.{basisOf, Exploring, ExploredFor}
 use Rattle.exploration.specs.ExplorationSteps.{OnPlan}
-use Rattle.found_set.specs.FoundSet.{limitsOf, planOf, SeedsFit, Cleared, SeededOn}
+use Rattle.seed_members.specs.Seeds.{Cleared, SeededOn}
+use Rattle.found_set.specs.FoundSet.{limitsOf, planOf, SeedsFit}
 use Rattle.work_layout.specs.WorkLayout.{workEnd, spansAt}
 
 -- ---- counts of a sheet that is held
@@ -88,23 +87,6 @@ module _ (sheet : Sheet) (fine : Admissible (sheetOf sheet)) where
         movable = m;
       }
 
--- what is no node opens to nothing
-opens-none : (ns : List Node) (k f : ℕ) → nodeOf ns k ≡ stop → openWithin f ns k ≡ []
-unfolding openWithin
-opens-none ns k zero q = refl
-opens-none ns k (suc f) q = ap (openingOf (openWithin f ns) k) q
-
--- a thread that opens to itself is one of the nodes
-self-node : (ns : List Node) (k : ℕ) → opened ns k ≡ k ∷ [] → k < length ns
-self-node ns k e = go (ltb k (length ns)) refl
-  where
-    never : [] ≡ k ∷ [] → ⊥
-    never q = let z : _≡_ {A = ℕ} 0 1 = ap length q in omega arith
-
-    go : (b : Bool) → ltb k (length ns) ≡ b → k < length ns
-    go true q = ltb-true k (length ns) q
-    go false q = absurd (never (sym (opens-none ns k (length ns) (List·getD-eq-default ns stop (ltb-false k (length ns) q))) ∙ e))
-
 module _ (sheet : Sheet) (seeds : List Configuration) (k : ℕ) (caps : Caps) (fine : Admissible (sheetOf sheet)) (fit : SeedsFit sheet seeds k) where
   pub seed-of : (p : spec.Configuration) → List·Memᴰ p (startsIn seeds k) → OfSheet (sheetOf sheet) p
   seed-of p m =
@@ -128,7 +110,7 @@ module _ (sheet : Sheet) (seeds : List Configuration) (k : ℕ) (caps : Caps) (f
           few = h;
           ascending = o .process .ascending;
           nodes = λ t i.
-              omega (arith, nodes-are sheet fine, self-node (nodesIn (sheet .nodes) (sheet .«node_count»)) t (o .process .self-opening t i));
+              omega (arith, nodes-are sheet fine, opened-inside (nodesIn (sheet .nodes) (sheet .«node_count»)) t (o .process .self-opening t i));
         };
       }
 

@@ -32,7 +32,8 @@ use Rattle.set_order.specs.OrderedSet.{spanNumbers, SpanFits, Discovered}
 use Rattle.set_order.specs.OrderedSetLaws.{arranged-held}
 use Rattle.set_order.specs.SetOrderSteps.{DiscoveredSome, ArrangedAll}
 use Rattle.exploration.specs.declared.Plan.{Plan}
-use Rattle.exploration.specs.Exploration.{IsExplored, Exploring, ExploredFor}
+use Rattle.unexplored_members.specs.UnexploredMembers.{IsExplored}
+use Rattle.exploration.specs.Exploration.{Exploring, ExploredFor}
 use Rattle.work_layout.specs.WorkLayout.{spansAt}
 
 module _ {plan : Plan} {w : List ℕ} {t : Running} (ex : Exploring w plan t) (all : (id : ℕ) → id < t .members → IsExplored w id) where

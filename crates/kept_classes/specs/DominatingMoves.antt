@@ -3,12 +3,13 @@
 use mathlib.Core.Path.{_≡_, refl, sym, ap, _∙_, subst}
 use mathlib.Core.Bool.{Bool, true, false, cond, _&&_}
 use mathlib.Core.List.{List, List·Memᴰ}
-use Prim.Native.Nat.{ℕ, suc, _≤_, _<_}
+use Prim.Native.Nat.{ℕ, _+_, _≤_, _<_}
 use native.Mathlib.Omega.{arith}
 use lib.ListN.{length, getD}
 use lib.Dec.{eqb, ltb}
 use borrow.Author.Tests.{eqb-true, eqb-false, ltb-true, ltb-false}
 use Rattle.list_laws.specs.TestLaws.{true-false, and-left, and-right, and-intro, Tested, tested, passes, fails}
+use Rattle.list_laws.specs.PlacesPassed.{holds-next}
 use Rattle.list_laws.specs.Members.{any-mem}
 use Rattle.list_laws.specs.ListPlaces.{getD-in, any-nowhere, ascends-places}
 use Rattle.store_laws.specs.FactSetLaws.{within-le}
@@ -39,12 +40,11 @@ module _ (sheet : Sheet) (set : List Configuration) where
   passed-none numbers ms m = record { fail = λ j l k. absurd (omega arith) }
 
   pub passed-one : (numbers : List ℕ) (ms : List Move) (m : Move) (i : ℕ) → Passed numbers ms m i
-      → dominates numbers m (getD ms i m) ≡ false → Passed numbers ms m (suc i)
-  passed-one numbers ms m i P f = record { fail = λ j l k. go j l k (tested (eqb j i)) }
-    where
-      go : (j : ℕ) → j < suc i → j < length ms → Tested (eqb j i) → dominates numbers m (getD ms j m) ≡ false
-      go j l k (passes y) = subst (λ (v : ℕ). dominates numbers m (getD ms v m) ≡ false) (sym (eqb-true j i y)) f
-      go j l k (fails y) = P .fail j (omega (arith, eqb-false j i y)) k
+      → dominates numbers m (getD ms i m) ≡ false → Passed numbers ms m (i + 1)
+  passed-one numbers ms m i P f = record {
+    fail = λ j l.
+        holds-next (λ i. i < length ms → dominates numbers m (getD ms i m) ≡ false) 0 i (λ i _ k. P .fail i k) (λ _. f) j (omega arith) l;
+  }
 
   -- none is left: the move is irredundant
   pub passed-all : (numbers : List ℕ) (p : Configuration) (m : Move) (i : ℕ) → Passed numbers (moves sheet p) m i

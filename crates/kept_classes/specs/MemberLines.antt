@@ -6,8 +6,8 @@ use mathlib.Core.Bool.{true, false, not}
 use mathlib.Core.List.{List, map, List·Memᴰ}
 use Prim.Native.Nat.{ℕ, suc, _+_, _*_, _<_}
 use native.Mathlib.Omega.{arith}
-use borrow.Author.Tests.{eqb-true, eq-eqb}
-use Rattle.list_laws.specs.TestLaws.{true-false, not-passes, not-back, Tested, tested, passes, fails}
+use borrow.Author.Tests.{eqb-true, eq-eqb, not-true}
+use Rattle.list_laws.specs.TestLaws.{true-false, not-passes, Tested, tested, passes, fails}
 use Rattle.lists.specs.Lists.{select, Ascends, arrange}
 use Rattle.list_laws.specs.Members.{mem-select, select-mem, mem-map, map-mem}
 use Rattle.list_laws.specs.AscendingLaws.{arrange-ascends, arrange-keeps, arrange-only, ascends-unique}
@@ -65,7 +65,7 @@ module _ (sheet : Sheet) (set : List Configuration) (numbers : List ℕ) where
   line-only p l i =
       let x = mem-map lineOf (irredundants p) (arrange-only numberOrder (map lineOf (irredundants p)) i) in
       let y = mem-select (λ m. not (redundant sheet set numbers p m)) (moves sheet p) (x .1) in
-      (x .0, y .0, not-back (redundant sheet set numbers p (x .0)) (y .1), x .2)
+      (x .0, y .0, not-true (redundant sheet set numbers p (x .0)) (y .1), x .2)
 
   module _ (wf : WellFormed sheet) (closed : ClosedList sheet set) (n : ℕ) (sh : Sharing sheet wf set closed numbers n)
       (few : (p : Configuration) → classOf set numbers p < 65536) where

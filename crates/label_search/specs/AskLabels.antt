@@ -1,17 +1,16 @@
 -- The labels of an ask, read off a slice that begins with a table of closures.
 use mathlib.Core.Path.{_≡_}
-use mathlib.Core.Logic.{_⊎_}
-use mathlib.Core.Bool.{Bool, true, false, not, _&&_}
+use mathlib.Core.Bool.{Bool, not, _&&_}
 use mathlib.Core.List.{List, List·Memᴰ}
 use Prim.Native.Nat.{ℕ, _+_, _-_, _/_, _^_, _≤_, _<_}
 use lib.ListN.{length, getD, take, drop}
-use lib.Dec.{eqb}
 use lib.Bits.{bitOr}
 use Rattle.lists.specs.Lists.{any, Distinct}
 use Rattle.stores.specs.Stores.{Rule, conclusions, includes}
 use Rattle.sheets.specs.Sheet.{Sheet}
 use Rattle.moves.specs.Moves.{labels}
 use Rattle.closure_table.specs.ClosureTable.{Closures}
+use Rattle.label_tests.specs.LabelTests.{passesBy}
 
 -- the slice begins with the closures of every set of so many facts, under some rules about them
 pub record TableOf (facts : ℕ) (w : List ℕ) : Type 0 where
@@ -36,19 +35,9 @@ pub record LabelRoom (facts d at : ℕ) (w : List ℕ) : Type 0 where
 abbrev pub part : List ℕ → ℕ → ℕ → List ℕ
 part w first end = take (end - first) (drop first w)
 
--- By the table: the facts that v has outside d close to no more outside d, and v makes c true. v has all facts of d.
-abbrev pub passesBy : List ℕ → ℕ → ℕ → ℕ → Bool
-passesBy w d c v = eqb (bitOr d (getD w (v - d) 0)) v && includes (getD w v 0) c
-
 -- v passes, and no label found before is inside the closure of what v has outside d
 abbrev pub isNext : List ℕ → ℕ → ℕ → List ℕ → ℕ → Bool
 isNext w d c found v = passesBy w d c v && not (any (λ b. includes (getD w (v - d) 0) b) found)
-
--- r is a place from `from` on, before `end`, whose set is inside a, or the end, where there is none
-pub record InsideAt (w : List ℕ) (from end a r : ℕ) : Type 0 where
-  pub ends : (from ≤ r) × (r ≤ end)
-  pub inside : r < end → includes a (getD w r 0) ≡ true
-  pub none : end ≤ r → (i : ℕ) → from ≤ i → i < end → includes a (getD w i 0) ≡ false
 
 -- the labels of an ask of c at d whose union with d is below k, each once
 pub record Found (sheet : Sheet) (d c k : ℕ) (found : List ℕ) : Type 0 where

@@ -9,8 +9,8 @@ use lib.ListN.{length, getD, take, drop, length-drop}
 use lib.Seq.{getD-drop}
 use lib.Bits.{bitOr}
 use lib.Dec.{eqb, ltb}
-use borrow.Author.Tests.{eq-eqb, ne-eqb, eqb-true, eqb-false, ltb-true, ltb-false}
-use Rattle.list_laws.specs.TestLaws.{true-false, and-left, and-right, and-intro, or-fails, or-left, or-right, not-passes, not-back}
+use borrow.Author.Tests.{eq-eqb, eqb-true, ltb-true, ltb-false, not-true}
+use Rattle.list_laws.specs.TestLaws.{true-false, and-left, and-right, and-intro, or-fails, or-left, or-right, not-passes}
 use Rattle.lists.specs.Lists.{any, no-elements, one-more}
 use Rattle.list_laws.specs.Members.{any-yes, any-mem}
 use Rattle.list_laws.specs.Counting.{distinct-append}
@@ -24,7 +24,8 @@ use Rattle.move_laws.specs.LabelLaws.{label-constraint, label-makes-true, label
 use Rattle.closure_table.specs.ClosureTable.{Closures}
 use Rattle.label_search.specs.FactsOutside.{Has, or-above, above-next, next-least, has-or}
 use Rattle.label_search.specs.LabelOrder.{label-outside}
-use Rattle.label_search.specs.AskLabels.{Found, InsideAt, passesBy, isNext}
+use Rattle.label_tests.specs.LabelTests.{InsideAt, passesBy}
+use Rattle.label_search.specs.AskLabels.{Found, isNext}
 
 -- ---- a test over the sets found
 module _ (p : ℕ → Bool) where
@@ -53,34 +54,6 @@ module _ (w : List ℕ) (at n a r : ℕ) (h : InsideAt w at (at + n) a r) where
       let q : at + (r - at) ≡ r = omega (arith, h .ends) in
       any-hit (λ b. includes a b) (drop at w) n (r - at) (omega (arith, h .ends)) (simp length-drop (omega arith))
       (ap (λ (x : ℕ). includes a x) (getD-drop at w (r - at) 0 ∙ ap (λ (k : ℕ). getD w k 0) q) ∙ h .inside e)
-
--- ---- looking for a set inside a
-pub inside-next : (w : List ℕ) (a i : ℕ) {from : ℕ} → ((k : ℕ) → from ≤ k → k < i → includes a (getD w k 0) ≡ false)
-    → includes a (getD w i 0) ≡ false → (k : ℕ) → from ≤ k → k < i + 1 → includes a (getD w k 0) ≡ false
-inside-next w a i h e k l u = go (eqb k i) refl
-  where
-    go : (b : Bool) → eqb k i ≡ b → includes a (getD w k 0) ≡ false
-    go true q = ap (λ (x : ℕ). includes a (getD w x 0)) (eqb-true k i q) ∙ e
-    go false q = h k l (omega (arith, eqb-false k i q))
-
-module _ (w : List ℕ) (first end hint a : ℕ) (low : first ≤ hint) (high : hint ≤ end) where
-  -- found from the hint on
-  pub inside-later : (i : ℕ) → InsideAt w hint end a i → i < end → InsideAt w first end a i
-  inside-later i h l = record { ends = (omega (arith, h .ends), h .ends .1); inside = h .inside; none = λ e. absurd (omega arith) }
-
-  -- found before it
-  pub inside-before : (j : ℕ) → InsideAt w first hint a j → j < hint → InsideAt w first end a j
-  inside-before j h l =
-      record { ends = (h .ends .0, omega (arith, h .ends)); inside = λ e. h .inside l; none = λ e. absurd (omega arith) }
-
-  -- not found
-  pub inside-nowhere : (i j : ℕ) → InsideAt w hint end a i → end ≤ i → InsideAt w first hint a j → hint ≤ j → InsideAt w first end a end
-  inside-nowhere i j h l g m =
-      record { ends = (omega arith, omega arith); inside = λ e. absurd (omega arith); none = λ e k p q. go k p q (ltb k hint) refl }
-    where
-      go : (k : ℕ) → first ≤ k → k < end → (b : Bool) → ltb k hint ≡ b → includes a (getD w k 0) ≡ false
-      go k p q true e = g .none m k p (ltb-true k hint e)
-      go k p q false e = h .none l k (ltb-false k hint e) q
 
 -- ---- one set more tried
 -- nothing is below d
@@ -197,22 +170,15 @@ module _ (sheet : Sheet) (d c : ℕ) (w : List ℕ) (table : Closures (sheet .ru
             let p = and-left (passesBy w d c v) (not (any (λ b. includes own b) found)) n in
             found-more (eqb-true (bitOr d own) v (and-left (eqb (bitOr d own) v) (includes (getD w v 0) c) p))
             (includes-within (getD w v 0) c (and-right (eqb (bitOr d own) v) (includes (getD w v 0) c) p))
-            (not-back (any (λ b. includes own b) found) (and-right (passesBy w d c v) (not (any (λ b. includes own b) found)) n))
+            (not-true (any (λ b. includes own b) found) (and-right (passesBy w d c v) (not (any (λ b. includes own b) found)) n))
 
--- ---- the tests by the table
-module _ (w : List ℕ) (d c v : ℕ) where
-  pub passes-closed : bitOr d (getD w (v - d) 0) ≡ v → passesBy w d c v ≡ includes (getD w v 0) c
-  passes-closed e = rw (eq-eqb (bitOr d (getD w (v - d) 0)) v e)
+-- ---- whether v gives the next label
+module _ (w : List ℕ) (d c v : ℕ) (found : List ℕ) where
+  pub next-fails : passesBy w d c v ≡ false → isNext w d c found v ≡ false
+  next-fails e = rw e
 
-  pub passes-open : (bitOr d (getD w (v - d) 0) ≡ v → ⊥) → passesBy w d c v ≡ false
-  passes-open n = rw (ne-eqb (bitOr d (getD w (v - d) 0)) v n)
+  pub next-covered : passesBy w d c v ≡ true → any (λ b. includes (getD w (v - d) 0) b) found ≡ true → isNext w d c found v ≡ false
+  next-covered e h = rw (e, h)
 
-  module _ (found : List ℕ) where
-    pub next-fails : passesBy w d c v ≡ false → isNext w d c found v ≡ false
-    next-fails e = rw e
-
-    pub next-covered : passesBy w d c v ≡ true → any (λ b. includes (getD w (v - d) 0) b) found ≡ true → isNext w d c found v ≡ false
-    next-covered e h = rw (e, h)
-
-    pub next-found : passesBy w d c v ≡ true → any (λ b. includes (getD w (v - d) 0) b) found ≡ false → isNext w d c found v ≡ true
-    next-found e h = rw (e, h)
+  pub next-found : passesBy w d c v ≡ true → any (λ b. includes (getD w (v - d) 0) b) found ≡ false → isNext w d c found v ≡ true
+  next-found e h = rw (e, h)

@@ -1,68 +1,19 @@
 // The labels of an ask at a store: the sets that have all facts of the store are tried in ascending order.
 use closure_table::sets_of;
+use label_tests::inside_from;
+use label_tests::passes;
 use number_lists::sort_numbers;
 ghost use mathlib.Core.Path.{_≡_};
 ghost use mathlib.Core.Bool.{cond};
 ghost use Prim.Native.Nat.{_+_, _/_, _≤_, _<_, _^_};
-ghost use lib.ListN.{length, getD, take, drop};
+ghost use lib.ListN.{length, take, drop};
 ghost use Rattle.list_laws.specs.Frames.{SameOutside};
-ghost use Rattle.label_search.specs.AskLabels.{LabelsAre, LabelRoom, FoundBelow, InsideAt, passesBy, isNext};
+ghost use Rattle.label_search.specs.AskLabels.{LabelsAre, LabelRoom, FoundBelow, isNext};
 
 // Whether a set gives a label, 1 or 0, and the place to look at first for a label inside the next set.
 struct Tried {
     count: usize,
     hint: usize,
-}
-
-// The first place from `from` on, before `end`, whose set is inside a; the end where there is none.
-fn inside_at(work: &[u32], from: usize, end: usize, a: u32) -> usize
-    requires { ⌜ (from ≤ end) × (end ≤ length (now work)) ⌝ }
-    ensures { λ r. ⌜ InsideAt (now (work .entry)) from end a r ⌝ }
-{
-    let mut i = from;
-    while i < end {
-        let l = work[i];
-        if l & a == l {
-            return i;
-        }
-        i += 1;
-    }
-    end
-}
-
-// A place from `first` on, before `end`, whose set is inside a, looked for from the hint on and then before it; the end where
-// there is none.
-fn inside_from(work: &[u32], first: usize, end: usize, hint: usize, a: u32) -> usize
-    requires { ⌜ (first ≤ hint) × (hint ≤ end) × (end ≤ length (now work)) ⌝ }
-    ensures { λ r. ⌜ InsideAt (now (work .entry)) first end a r ⌝ }
-{
-    let i = inside_at(work, hint, end, a);
-    if i < end {
-        return i;
-    }
-    let j = inside_at(work, first, hint, a);
-    if j < hint {
-        return j;
-    }
-    end
-}
-
-// The number at a place.
-pub fn number_at(work: &[u32], i: usize) -> usize
-    requires { ⌜ i < length (now work) ⌝ }
-    ensures { λ r. ⌜ r ≡ getD (now (work .entry)) i 0 ⌝ }
-{
-    work[i] as usize
-}
-
-// Whether the facts that v has outside d close to no more outside d, and v makes c true, by the table. v has all facts of d.
-fn passes(work: &[u32], d: usize, c: u32, v: usize) -> bool
-    requires { ⌜ (d ≤ v) × (v < length (now work)) ⌝ }
-    ensures { λ r. ⌜ r ≡ passesBy (now (work .entry)) d c v ⌝ }
-{
-    let own = number_at(work, v - d);
-    let joined = work[v];
-    d | own == v && c & joined == c
 }
 
 // Whether the closure of what v has outside d is a label, with those of lower v found already, n of them from `at` on. Sets that

@@ -25,18 +25,12 @@ fn byte_at(s: &[u8], i: usize) -> u8 {
     if i < s.len() { s[i] } else { 255 }
 }
 
-fn wide(x: u8) -> usize
-    ensures { λ r. ⌜ r < 256 ⌝ }
-{
-    x as usize
-}
-
 // Two bytes, the low one first.
 fn word_at(s: &[u8], at: usize) -> usize
     requires { ⌜ at ≤ 65536 ⌝ }
     ensures { λ r. ⌜ r < 65536 ⌝ }
 {
-    wide(byte_at(s, at)) + 256 * wide(byte_at(s, at + 1))
+    threads::wide(byte_at(s, at)) + 256 * threads::wide(byte_at(s, at + 1))
 }
 
 // The number of the configuration whose store and threads stand at a place of the answer; none where it is not reached.
@@ -59,7 +53,7 @@ fn list_member(answer: &[u8], at: usize, w: &mut [usize], i: usize) -> usize
     if p == numbers::NONE {
         return numbers::NONE;
     }
-    let class = at + 3 + wide(count);
+    let class = at + 3 + threads::wide(count);
     numbers::put_in_entry(w, areas::MEMBERS, i, MEMBER, p);
     numbers::put_in_entry(w, areas::MEMBERS, i, REPORTED, word_at(answer, class));
     class + 2

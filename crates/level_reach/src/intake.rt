@@ -14,10 +14,6 @@ const NODES: usize = 64;
 
 const PASSES: usize = 13;
 
-fn wide_byte(x: u8) -> usize {
-    x as usize
-}
-
 pub fn wide(x: u16) -> usize
     ensures { λ r. ⌜ r ≡ x ⌝ }
 {
@@ -102,7 +98,7 @@ fn put_constraints(w: &mut [usize], sets: usize) -> bool {
 
 // Stores a node's four numbers.
 fn put_node(w: &mut [usize], k: usize, kind: u8, first: u16, second: u16, list: usize) {
-    numbers::put_in_entry(w, areas::NODES, k, 0, wide_byte(kind));
+    numbers::put_in_entry(w, areas::NODES, k, 0, threads::wide(kind));
     numbers::put_in_entry(w, areas::NODES, k, 1, wide(first));
     numbers::put_in_entry(w, areas::NODES, k, 2, wide(second));
     numbers::put_in_entry(w, areas::NODES, k, 3, list);

@@ -1,27 +1,14 @@
 // The line that tells what the second checker found of a report.
 use level_check::Checked;
-ghost use mathlib.Core.List.{[], _∷_};
+ghost use mathlib.Core.List.{[]};
 ghost use Prim.Native.Nat.{_≤_};
 ghost use lib.ListN.{length};
 ghost use Rattle.printed_lines.specs.Lines.{line};
 ghost use Rattle.text.specs.Slices.{Written};
-ghost use Rattle.level_text.specs.LevelText.{agreeWord, checkedText};
+ghost use Rattle.level_text.specs.LevelText.{checkedText};
 
 // What every line has room in.
 const LINE_ROOM: usize = 128;
-
-// The line of a report that agrees.
-fn agree_line(configurations: usize, levels: usize, out: &mut [u8]) -> usize
-    ensures { λ r. ⌜ Written (line agreeWord (configurations ∷ levels ∷ [])) (now (out .entry)) (now (out .exit)) r ⌝ }
-{
-    if out.len() < LINE_ROOM {
-        return 0;
-    }
-    let a = text::put_text(out, 0, b"LEVELS AGREE");
-    let b = text::put_field(out, a, configurations as u64);
-    let c = text::put_field(out, b, levels as u64);
-    text::put_end(out, c)
-}
 
 // A line of words alone.
 fn word_line(words: &[u8], out: &mut [u8]) -> usize
@@ -40,7 +27,9 @@ pub fn checked_line(checked: Checked, out: &mut [u8]) -> usize
     ensures { λ r. ⌜ Written (checkedText checked) (now (out .entry)) (now (out .exit)) r ⌝ }
 {
     match checked {
-        Checked::Agree(configurations, levels) => agree_line(configurations, levels, out),
+        Checked::Agree(configurations, levels) => {
+            text::two_number_line(out, b"LEVELS AGREE", configurations as u64, levels as u64)
+        }
         Checked::TooLarge => word_line(b"LEVELS TOO LARGE", out),
         Checked::Members => word_line(b"LEVELS DIFFER MEMBERS", out),
         Checked::Places => word_line(b"LEVELS DIFFER PLACES", out),

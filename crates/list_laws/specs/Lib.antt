@@ -9,3 +9,6 @@ pub mod Frames
 pub mod TabulateLaws
 pub mod EnteringLaws
 pub mod ListPlaces
+pub mod PlacesPassed
+pub mod Halving
+pub mod RaisedNumbers

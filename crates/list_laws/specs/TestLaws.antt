@@ -1,6 +1,8 @@
 -- Laws of tests: `&&`, `||` and `not` of the library, read as statements.
 use mathlib.Core.Path.{_≡_, refl, sym, _∙_}
 use mathlib.Core.Bool.{Bool, true, false, not, _&&_, _||_, false≢true}
+use Prim.Native.Nat.{ℕ, _<_}
+use native.Mathlib.Omega.{arith}
 
 pub true-false : {A : Type 0} (b : Bool) → b ≡ true → b ≡ false → A
 true-false b p q = absurd (false≢true (sym q ∙ p))
@@ -46,9 +48,9 @@ not-passes p = rw p
 pub not-fails : {b : Bool} → b ≡ true → not b ≡ false
 not-fails p = rw p
 
-pub not-back : (b : Bool) → not b ≡ true → b ≡ false
-not-back true h = sym h
-not-back false h = refl
+-- of two numbers neither is below the other
+pub neither-below : (n m : ℕ) → (n < m → ⊥) → (m < n → ⊥) → n ≡ m
+neither-below n m h k = omega (arith, h, k)
 
 -- two tests that imply each other are equal
 pub same-test : (a b : Bool) → (a ≡ true → b ≡ true) → (b ≡ true → a ≡ true) → a ≡ b

@@ -10,7 +10,7 @@ use Rattle.node_moves.specs.NodeMoves.{placedMoves}
 use Rattle.comparison.specs.Promise.{PassesLimit}
 use Rattle.collected_moves.specs.CollectedMoves.{Grown, movesOf}
 use Rattle.set_growth.specs.SetGrowth.{Growth, InHand, Gathered}
-use Rattle.nodes_to_visit.specs.NodesToVisit.{threadAt}
+use Rattle.threads_beside.specs.ThreadsBeside.{threadAt}
 use Rattle.walk_state.specs.declared.Basis.{Basis}
 use Rattle.walk_state.specs.declared.Walk.{Walk}
 use Rattle.walk_state.specs.declared.Walked.{Walked}

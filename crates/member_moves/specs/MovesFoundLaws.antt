@@ -26,7 +26,8 @@ use Rattle.collected_moves.specs.CollectedMoves.{Grown, movesOf}
 use Rattle.collected_moves.specs.CollectedLaws.{grown-refl, grown-trans}
 use Rattle.set_growth.specs.SetGrowth.{Growth, InHand, Gathered}
 use Rattle.set_growth.specs.SetGrowthLaws.{gathered-same}
-use Rattle.nodes_to_visit.specs.NodesToVisit.{placed, threadAt, pendingOne, pendingIn, Pushed}
+use Rattle.threads_beside.specs.ThreadsBeside.{placed, threadAt}
+use Rattle.nodes_to_visit.specs.NodesToVisit.{pendingOne, pendingIn, Pushed}
 use Rattle.nodes_to_visit.specs.NodesToVisitLaws.{pushed-all}
 use Rattle.walk_state.specs.declared.Basis.{Basis}
 use Rattle.walk_state.specs.declared.Walk.{Walk}

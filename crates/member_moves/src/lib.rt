@@ -34,7 +34,7 @@ fn thread_moves(
     if 0 < i && own[i - 1] == own[i] {
         return Walked::On(s);
     }
-    let thread = nodes_to_visit::thread_beside(e, i);
+    let thread = threads_beside::thread_beside(e, i);
     nodes_to_visit::push(work, 0, thread);
     let running = s.running;
     let shelf = s.shelf;

@@ -21,8 +21,7 @@ use Rattle.packing.specs.declared.Numbers.{Numbers}
 use Rattle.packing.specs.Packing.{unpacked, standsFor, PackedIn}
 use Rattle.member_table.specs.MemberTable.{numbersIn, memberIn, idIn, placedIn, membersIn, orderedIn, Kept}
 use Rattle.member_table.specs.MemberSearch.{Placed}
-use Rattle.number_lists.specs.NumberLists.{Raised}
-use Rattle.number_lists.specs.Placing.{raised-behind}
+use Rattle.list_laws.specs.RaisedNumbers.{Raised, raised-behind}
 use Rattle.member_table.specs.MemberLaws.{ordered-in}
 use Rattle.member_table.specs.EntryFound.{EnteredIn}
 use Rattle.work_layout.specs.WorkLayout.{tableIds, tableLength}
@@ -72,7 +71,7 @@ module _ (u : List ℕ) (n : ℕ) (x : Numbers) where
   key-long = simp length-set
 
 -- the order moved up, the id and the numbers stored
-pub put-in : (v u : List ℕ) (n at : ℕ) (x : Numbers) → Raised v (tableIds + at) (tableIds + n) u → at ≤ n → n < 512 → tableLength ≤ length v
+pub put-in : (v u : List ℕ) (n at : ℕ) (x : Numbers) → Raised 1 v (tableIds + at) (tableIds + n) u → at ≤ n → n < 512 → tableLength ≤ length v
     → PutIn v n at x (putKey (set u (tableIds + at) n) n x)
 put-in v u n at x r h k l =
     let t : List ℕ = set u (tableIds + at) n in

@@ -4,9 +4,8 @@ use mathlib.Core.Bool.{Bool, true, false}
 use mathlib.Core.List.{List}
 use Prim.Native.Nat.{ℕ, _+_, _≤_, _<_}
 use native.Mathlib.Omega.{arith}
-use lib.Dec.{ltb}
-use borrow.Author.Tests.{ltb-true, ltb-false}
 use Rattle.list_laws.specs.TestLaws.{true-false}
+use Rattle.list_laws.specs.Halving.{Halving, halving-first, halving-upper, halving-lower, halving-last}
 use Rattle.sheets.specs.Sheet.{Configuration}
 use Rattle.moves.specs.Orders.{configurationBefore}
 use Rattle.move_laws.specs.OrderLaws.{configurationOrder}
@@ -34,42 +33,14 @@ pub record Placed (w : List ℕ) (n : ℕ) (p : Configuration) (found : Bool) (a
   pub above : found ≡ false → (j : ℕ) → at ≤ j → j < n → configurationBefore p (placedIn w j) ≡ true
 
 -- p is at none of the places below low and at none from high on
-pub record Halved (w : List ℕ) (n : ℕ) (p : Configuration) (low high : ℕ) : Type 0 where
-  pub ends : (low ≤ high) × (high ≤ n)
-  pub below : (j : ℕ) → j < low → configurationBefore (placedIn w j) p ≡ true
-  pub above : (j : ℕ) → high ≤ j → j < n → configurationBefore p (placedIn w j) ≡ true
+abbrev pub Halved : List ℕ → ℕ → Configuration → ℕ → ℕ → Type 0
+Halved w n p low high =
+    Halving (λ j. configurationBefore (placedIn w j) p ≡ true) (λ j. configurationBefore p (placedIn w j) ≡ true) 0 n low high
 
 module _ (w : List ℕ) (n : ℕ) (p : Configuration) where
   pub halved-first : Halved w n p 0 n
-  halved-first = record { ends = (omega arith, omega arith); below = λ j h. absurd (omega arith); above = λ j h k. absurd (omega arith) }
-
-  pub halved-low : Kept w n → (low high mid : ℕ) → Halved w n p low high → mid < high → configurationBefore (placedIn w mid) p ≡ true
-      → Halved w n p (mid + 1) high
-  halved-low kept low high mid b h e =
-      record { ends = (omega arith, b .ends .1); below = λ j l. go j l (ltb j mid) refl; above = b .above }
-    where
-      go : (j : ℕ) → j < mid + 1 → (t : Bool) → ltb j mid ≡ t → configurationBefore (placedIn w j) p ≡ true
-      go j l true t =
-          configurationOrder .transitive (placedIn w j) (placedIn w mid) p
-          (ascends-at configurationOrder (placedIn w) n (kept .ascends) j mid (ltb-true j mid t) (omega (arith, b .ends .1))) e
-      go j l false t =
-          let m : mid ≤ j = ltb-false j mid t in
-          let q : j ≡ mid = omega arith in
-          ap (λ (i : ℕ). configurationBefore (placedIn w i) p) q ∙ e
-
-  pub halved-high : Kept w n → (low high mid : ℕ) → Halved w n p low high → low ≤ mid → mid < high → configurationBefore p (placedIn w mid) ≡ true
-      → Halved w n p low mid
-  halved-high kept low high mid b l h e =
-      record { ends = (l, omega (arith, b .ends .1)); below = b .below; above = λ j m k. go j m k (ltb mid j) refl }
-    where
-      go : (j : ℕ) → mid ≤ j → j < n → (t : Bool) → ltb mid j ≡ t → configurationBefore p (placedIn w j) ≡ true
-      go j m k true t =
-          configurationOrder .transitive p (placedIn w mid) (placedIn w j) e
-          (ascends-at configurationOrder (placedIn w) n (kept .ascends) mid j (ltb-true mid j t) k)
-      go j m k false t =
-          let z : j ≤ mid = ltb-false mid j t in
-          let q : j ≡ mid = omega arith in
-          ap (λ (i : ℕ). configurationBefore p (placedIn w i)) q ∙ e
+  halved-first =
+      halving-first (λ j. configurationBefore (placedIn w j) p ≡ true) (λ j. configurationBefore p (placedIn w j) ≡ true) 0 n (omega arith)
 
   pub placed-found : Kept w n → (mid : ℕ) → mid < n → sideOf (configurationBefore (placedIn w mid) p) (configurationBefore p (placedIn w mid)) ≡ 1
       → Placed w n p true mid
@@ -88,20 +59,27 @@ module _ (w : List ℕ) (n : ℕ) (p : Configuration) where
     pub found-side : mid < n → r ≡ 1 → Placed w n p true mid
     found-side h e = placed-found kept mid h (sym s ∙ e)
 
-    pub low-side : (low high : ℕ) → Halved w n p low high → mid < high → r ≡ 0 → Halved w n p (mid + 1) high
-    low-side low high b h e =
-        halved-low kept low high mid b h (side-before (configurationBefore (placedIn w mid) p) (configurationBefore p (placedIn w mid)) (sym s ∙ e))
+    pub low-side : (low high : ℕ) → Halved w n p low high → low ≤ mid → mid < high → r ≡ 0 → Halved w n p (mid + 1) high
+    low-side low high b l h e =
+        halving-upper b mid l h (side-before (configurationBefore (placedIn w mid) p) (configurationBefore p (placedIn w mid)) (sym s ∙ e))
+        (λ j _ k t.
+        configurationOrder .transitive (placedIn w j) (placedIn w mid) p
+        (ascends-at configurationOrder (placedIn w) n (kept .ascends) j mid k (omega (arith, b .ends .2))) t)
 
     pub high-side : (low high : ℕ) → Halved w n p low high → low ≤ mid → mid < high → (r ≡ 0 → ⊥) → (r ≡ 1 → ⊥) → Halved w n p low mid
     high-side low high b l h f g =
-        halved-high kept low high mid b l h
+        halving-lower b mid l h
         (side-after (configurationBefore (placedIn w mid) p) (configurationBefore p (placedIn w mid)) (λ e. f (s ∙ e)) (λ e. g (s ∙ e)))
+        (λ j k m t.
+        configurationOrder .transitive p (placedIn w mid) (placedIn w j) t
+        (ascends-at configurationOrder (placedIn w) n (kept .ascends) mid j k m))
 
   pub placed-none : (low high : ℕ) → Halved w n p low high → high ≤ low → Placed w n p false low
   placed-none low high b h =
+      let found = halving-last b h in
       record {
-        within = omega (arith, b .ends .0, b .ends .1);
-        below = b .below;
+        within = found .ends .2;
+        below = λ j l. found .below j (omega arith) l;
         hit = λ t. true-false false t refl;
-        above = λ f j l k. b .above j (omega arith) k;
+        above = λ f. found .above;
       }

@@ -8,16 +8,9 @@ use packing::Numbers;
 use work_layout::MEMBERS;
 use work_layout::MOVES;
 ghost use mathlib.Core.Path.{_≡_};
-ghost use Prim.Native.Nat.{min};
 ghost use Rattle.packing.specs.Packing.{standsFor, PackedIn};
 ghost use Rattle.collected_moves.specs.CollectedMoves.{Collecting, NotedAs, EnteredAs};
 ghost use Rattle.collected_moves.specs.LowestUnexplored.{lowestOf};
-
-fn lesser(a: usize, b: usize) -> usize
-    ensures { λ r. ⌜ r ≡ min a b ⌝ }
-{
-    if a < b { a } else { b }
-}
 
 // The lowest place that may have an unexplored member, where the one at this place may be new.
 fn lowest(s: Running, n: usize, at: usize) -> usize
@@ -26,7 +19,7 @@ fn lowest(s: Running, n: usize, at: usize) -> usize
     if n == s.members {
         s.low
     } else {
-        lesser(s.low, at)
+        small_numbers::lesser(s.low, at)
     }
 }
 

@@ -10,8 +10,8 @@ use lib.Pow.{pow-pos}
 use lib.Bits.{bitAnd, and-step, and-self, and-comm}
 use lib.ListN.{length}
 use lib.Dec.{eqb, leb}
-use borrow.Author.Tests.{eqb-true, eqb-false, eq-eqb, leb-true, leb-false}
-use Rattle.list_laws.specs.TestLaws.{true-false, and-left, and-right, and-intro, not-passes, not-back}
+use borrow.Author.Tests.{eqb-true, eqb-false, eq-eqb, leb-true, leb-false, not-true}
+use Rattle.list_laws.specs.TestLaws.{true-false, and-left, and-right, and-intro, not-passes}
 use Rattle.lists.specs.Lists.{select, any, Distinct, no-elements, one-more}
 use Rattle.list_laws.specs.Members.{mem-select, select-mem, any-yes, any-no, mem-map}
 use Rattle.list_laws.specs.Counting.{distinct-length, distinct-map-on}
@@ -158,7 +158,7 @@ module _ (sheet : Sheet) where
 
         none : any below (constraints sheet) ≡ false
         none =
-            not-back (any below (constraints sheet))
+            not-true (any below (constraints sheet))
             (and-right (makesTrue sheet d c a) (not (any below (constraints sheet)))
             (mem-select (isMinimal (makesTrue sheet d c) (constraints sheet)) (constraints sheet) m .1))
 

@@ -9,6 +9,7 @@ use native.Mathlib.Nat.{pow-le-pow-right}
 use lib.ListN.{length, getD}
 use lib.Dec.{ltb}
 use borrow.Author.Tests.{ltb-true, ltb-false}
+use Rattle.list_laws.specs.TestLaws.{true-false}
 use Rattle.list_laws.specs.Frames.{SameOutside, outside-same, outside-then, outside-again}
 use Rattle.list_laws.specs.Tabulate.{tabulate-at, tabulate-none}
 use Rattle.list_laws.specs.TabulateLaws.{tabulate-mem}
@@ -27,7 +28,8 @@ use Rattle.collected_moves.specs.CollectedLaws.{grown-trans}
 use Rattle.collected_moves.specs.CollectedFrames.{members-outside, moves-outside, collecting-outside, grown-outside}
 use Rattle.set_growth.specs.SetGrowth.{Growth, InHand}
 use Rattle.set_growth.specs.SetGrowthLaws.{gathered-same}
-use Rattle.nodes_to_visit.specs.NodesToVisit.{placed, placed-one, pendingOne, pendingIn}
+use Rattle.threads_beside.specs.ThreadsBeside.{placed, placed-one}
+use Rattle.nodes_to_visit.specs.NodesToVisit.{pendingOne, pendingIn}
 use Rattle.nodes_to_visit.specs.NodesToVisitLaws.{pending-pop, pending-same, pending-same-packed, weight, weight-none, weight-next, weight-append}
 use Rattle.walk_state.specs.declared.Basis.{Basis}
 use Rattle.walk_state.specs.declared.Walk.{Walk}
@@ -95,9 +97,6 @@ forgotten-kept {w = w} k q = kept-none w (omega (arith, ap (λ (l : List ℕ). l
 pub never-full : _≡_ {A = ℕ} 0 512 → ⊥
 never-full q = omega arith
 
-true-not-false : true ≡ false → ⊥
-true-not-false t = let z : _≡_ {A = ℕ} 0 1 = cc in omega arith
-
 -- where there is no room all marks are forgotten, and then this one is made
 pub forgotten-marks : {u v w : List ℕ} {n : ℕ} {p : Configuration} {id m at : ℕ} → (List·Memᴰ p (membersIn (partAt u marksAt) n) → ⊥)
     → Kept (partAt v marksAt) 0 → EnteredIn (partAt v marksAt) 0 512 p (partAt w marksAt) id m at
@@ -113,7 +112,7 @@ forgotten-marks {u} {v} {w} {n} {p} {id} {m} none k e o q =
             (λ (z : List·Memᴰ x (marksOf v 0)).
             absurd (List·Memᴰ·not-nil (subst (List·Memᴰ x) (ap (map placed) (tabulate-none (memberIn (partAt v marksAt)))) z)))
             (again .seen .only x i);
-        known = λ t. absurd (true-not-false t);
+        known = λ t. true-false true refl t;
         outside = outside-again o q;
       };
       itself = mark-of w m (entered-itself k e);
@@ -123,7 +122,7 @@ forgotten-marks {u} {v} {w} {n} {p} {id} {m} none k e o q =
 -- a node that is taken as new and not marked
 pub unmarked-seen : {v : List ℕ} {n : ℕ} {p : NodeBeside} → Kept (partAt v marksAt) n → SeenAs v n p v (record { fresh = true; marks = n })
 unmarked-seen {v} k =
-    record { kept = k; only = λ x i. inr i; known = λ t. absurd (true-not-false t); outside = outside-same marksAt (marksAt + tableLength) v }
+    record { kept = k; only = λ x i. inr i; known = λ t. true-false true refl t; outside = outside-same marksAt (marksAt + tableLength) v }
 
 -- ---- the table of closures
 -- a sheet stays that of the slice where nothing is changed before the moves in hand

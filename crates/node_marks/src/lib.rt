@@ -7,7 +7,7 @@ ghost use Prim.Native.Nat.{_≤_};
 ghost use lib.ListN.{length};
 ghost use Rattle.packing.specs.Packing.{PackedIn};
 ghost use Rattle.member_table.specs.MemberTable.{partAt, Kept};
-ghost use Rattle.nodes_to_visit.specs.NodesToVisit.{nodeFor};
+ghost use Rattle.threads_beside.specs.ThreadsBeside.{nodeFor};
 ghost use Rattle.node_marks.specs.NodeMarks.{SeenAs, MarkedAs};
 ghost use Rattle.work_layout.specs.WorkLayout.{marksAt, pendingEnd};
 

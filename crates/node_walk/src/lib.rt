@@ -1,6 +1,6 @@
 // The walk: the last node to visit is visited by its kind, until none is left.
 use node_marks::see;
-use nodes_to_visit::NodeBeside;
+use threads_beside::NodeBeside;
 use walk_state::Basis;
 use walk_state::Walk;
 use walk_state::Walked;
@@ -8,7 +8,7 @@ ghost use mathlib.Core.List.{[], _∷_};
 ghost use Prim.Native.Nat.{_+_, _≤_, _<_};
 ghost use Rattle.sheet_laws.specs.Ranks.{rankOf};
 ghost use Rattle.movable_nodes.specs.Movability.{nodesHeld};
-ghost use Rattle.nodes_to_visit.specs.NodesToVisit.{nodeBeside};
+ghost use Rattle.threads_beside.specs.ThreadsBeside.{nodeBeside};
 ghost use Rattle.walk_state.specs.WalkState.{NodesLent, VisitFits, Walking, Turned};
 ghost use Rattle.node_walk.specs.NodeVisits.{WalkedAs};
 
@@ -78,7 +78,7 @@ fn visit(
 {
     let top = s.top - 1;
     let x = nodes_to_visit::pending_at(work, top);
-    let e = nodes_to_visit::node_of(x);
+    let e = threads_beside::node_of(x);
     let kind = kinds[e.node as usize];
     let m = see(work, kind, s.marks, top, x);
     let running = s.running;

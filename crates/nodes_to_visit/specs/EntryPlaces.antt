@@ -11,12 +11,14 @@ use lib.Dec.{ltb, eqb}
 use borrow.Author.Tests.{ltb-true, ltb-false, eqb-true, eqb-false}
 use Rattle.list_laws.specs.TestLaws.{true-false}
 use Rattle.list_laws.specs.Frames.{SameOutside}
+use Rattle.list_laws.specs.RaisedNumbers.{Raised}
 use Rattle.node_moves.specs.NodeMoves.{NodeBeside}
 use Rattle.packing.specs.declared.Numbers.{Numbers}
 use Rattle.packing.specs.Packing.{PackedIn}
-use Rattle.nodes_to_visit.specs.NodesToVisit.{nodeFor, PendingPacked, pendingOne, Pushed, PutAmong, Entered, there, put}
+use Rattle.threads_beside.specs.ThreadsBeside.{nodeFor}
+use Rattle.nodes_to_visit.specs.NodesToVisit.{PendingPacked, pendingOne, Pushed, PutAmong, Entered, there, put}
 use Rattle.nodes_to_visit.specs.NodesToVisitLaws.{packed-same, placed-same}
-use Rattle.nodes_to_visit.specs.ThreadsBeside.{entry-stored}
+use Rattle.nodes_to_visit.specs.StoredEntry.{entry-stored}
 use Rattle.work_layout.specs.WorkLayout.{pendingAt, pendingEnd}
 
 -- ---- where it belongs
@@ -49,38 +51,6 @@ low-next rank w top n i y l p e h j k m = go (ltb j i) refl
         rw q (omega (arith, s))
     go false t = l j (ltb-false j i t) m
 
--- ---- numbers moved up
--- the numbers of v at the places from `from` on, below `to`, stand three places higher in w; no place before those differs, and none after
-pub record RaisedThree (v : List ℕ) (from to : ℕ) (w : List ℕ) : Type 0 where
-  pub low : (j : ℕ) → j < from + 3 → getD w j 0 ≡ getD v j 0
-  pub moved : (j : ℕ) → from ≤ j → j < to → getD w (j + 3) 0 ≡ getD v j 0
-  pub high : (j : ℕ) → to + 3 ≤ j → getD w j 0 ≡ getD v j 0
-  pub long : length w ≡ length v
-
-pub raised-none : (v : List ℕ) (to : ℕ) → RaisedThree v to to v
-raised-none v to = record { low = λ j h. refl; moved = λ j h k. absurd (omega arith); high = λ j h. refl; long = refl }
-
-pub raised-next : (v : List ℕ) (i to : ℕ) (w : List ℕ) → RaisedThree v i to w → 0 < i → i ≤ to → to + 3 ≤ length v
-    → RaisedThree v (i - 1) to (set w (i + 2) (getD w (i - 1) 0))
-raised-next v i to w r h k l =
-    record {
-      low = λ j m. getD-set-other w (i + 2) j (getD w (i - 1) 0) 0 (omega arith) ∙ r .low j (omega arith);
-      moved = λ j m n. go j m n (ltb j i) refl;
-      high = λ j m. getD-set-other w (i + 2) j (getD w (i - 1) 0) 0 (omega arith) ∙ r .high j m;
-      long = length-set w (i + 2) (getD w (i - 1) 0) ∙ r .long;
-    }
-  where
-    go : (j : ℕ) → i - 1 ≤ j → j < to → (b : Bool) → ltb j i ≡ b → getD (set w (i + 2) (getD w (i - 1) 0)) (j + 3) 0 ≡ getD v j 0
-    go j m n true e =
-        let s : j < i = ltb-true j i e in
-        let q : j + 3 ≡ i + 2 = omega arith in
-        let q' : i - 1 ≡ j = omega arith in
-        rw q (getD-set-same w (i + 2) (getD w (i - 1) 0) 0 (omega (arith, r .long)) ∙ r .low (i - 1) (omega arith)
-        ∙ ap (λ (z : ℕ). getD v z 0) q')
-    go j m n false e =
-        let s : i ≤ j = ltb-false j i e in
-        getD-set-other w (i + 2) (j + 3) (getD w (i - 1) 0) 0 (omega arith) ∙ r .moved j s n
-
 -- ---- entries with the same three numbers
 -- the three numbers of entry j of w are those of entry i of v
 pub record SameEntry (v : List ℕ) (i : ℕ) (w : List ℕ) (j : ℕ) : Type 0 where
@@ -109,7 +79,7 @@ module _ {v w : List ℕ} {i j : ℕ} (s : SameEntry v i w j) where
 
 -- ---- x, with these numbers, stored as entry k of u, in which the entries of v from there on stand one higher
 module _ (rank : ℕ → ℕ) (v u w : List ℕ) (top n k : ℕ) (x : NodeBeside) (few : top < 64) (within : k ≤ top)
-    (raised : RaisedThree v (pendingAt + 3 * k) (pendingAt + 3 * top) u)
+    (raised : Raised 3 v (pendingAt + 3 * k) (pendingAt + 3 * top) u)
     (pushed : Pushed u k x w) where
   lower : (i : ℕ) → i < k → SameEntry v i w i
   lower i l =
@@ -174,7 +144,7 @@ module _ (rank : ℕ → ℕ) (v : List ℕ) (top n k : ℕ) (x : NodeBeside) (y
       there k (h .0) (h .1 ∙ is)
 
   pub entered-put : (u : List ℕ) → found ≡ false → top < 64 → pendingEnd ≤ length v → ((i : ℕ) → i < top → PendingPacked v i)
-      → PackedIn y → RaisedThree v (pendingAt + 3 * k) (pendingAt + 3 * top) u
+      → PackedIn y → Raised 3 v (pendingAt + 3 * k) (pendingAt + 3 * top) u
       → Entered rank v top n x (set (set (set u (pendingAt + 3 * k) (y .a)) (pendingAt + 3 * k + 1) (y .b)) (pendingAt + 3 * k + 2) (y .c)) (top + 1)
   entered-put u f few room packed q raised =
       let w : List ℕ = set (set (set u (pendingAt + 3 * k) (y .a)) (pendingAt + 3 * k + 1) (y .b)) (pendingAt + 3 * k + 2) (y .c) in

@@ -1,5 +1,4 @@
 pub mod NodesToVisit
 pub mod NodesToVisitLaws
-pub mod ThreadsBeside
-pub mod ThreadTakenOut
+pub mod StoredEntry
 pub mod EntryPlaces

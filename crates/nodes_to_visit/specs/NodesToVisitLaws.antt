@@ -14,7 +14,8 @@ use borrow.Author.Tests.{eqb-true, eqb-false}
 use Rattle.list_laws.specs.Tabulate.{tabulate-next, tabulate-same}
 use Rattle.node_moves.specs.NodeMoves.{NodeBeside}
 use Rattle.packing.specs.Packing.{unpacked, Packed}
-use Rattle.nodes_to_visit.specs.NodesToVisit.{placed, PendingPacked, pendingOne, pendingIn, Pushed}
+use Rattle.threads_beside.specs.ThreadsBeside.{placed}
+use Rattle.nodes_to_visit.specs.NodesToVisit.{PendingPacked, pendingOne, pendingIn, Pushed}
 use Rattle.work_layout.specs.WorkLayout.{pendingAt}
 
 -- ---- equal numbers stand for one node with threads beside it

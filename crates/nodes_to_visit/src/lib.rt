@@ -1,61 +1,17 @@
-// Nodes with threads beside them: stored in the work slice until they are visited, threads joined and taken out.
+// Nodes with threads beside them, stored in the work slice until they are visited.
 use packing::Numbers;
-use sheet_types::Configuration;
+use threads_beside::NodeBeside;
 use work_layout::PENDING;
 ghost use mathlib.Core.Path.{_≡_};
 ghost use Prim.Native.Nat.{ℕ, _+_, _*_, _≤_, _<_};
-ghost use lib.ListN.{length, getD, take, drop};
-ghost use Rattle.lists.specs.Lists.{NotFalling};
-ghost use Rattle.list_laws.specs.SortingLaws.{insertAll};
+ghost use lib.ListN.{length};
+ghost use Rattle.list_laws.specs.RaisedNumbers.{Raised};
 ghost use Rattle.sheet_laws.specs.Ranks.{rankOf};
 ghost use Rattle.packing.specs.Packing.{PackedIn};
-ghost use Rattle.sheet_types.specs.HeldSheet.{configuration};
-ghost use Rattle.nodes_to_visit.specs.NodesToVisit.{nodeBeside, nodeFor, threadAt, PendingPacked, pendingOne, Pushed, PutBeside, Entered};
-ghost use Rattle.nodes_to_visit.specs.EntryPlaces.{SpotIs, RaisedThree};
+ghost use Rattle.threads_beside.specs.ThreadsBeside.{nodeBeside, nodeFor};
+ghost use Rattle.nodes_to_visit.specs.NodesToVisit.{PendingPacked, pendingOne, Pushed, Entered};
+ghost use Rattle.nodes_to_visit.specs.EntryPlaces.{SpotIs};
 ghost use Rattle.work_layout.specs.WorkLayout.{pendingEnd};
-
-// A node to visit with at most eight threads beside it, in ascending order.
-pub struct NodeBeside {
-    pub node: u16,
-    pub count: u8,
-    pub threads: [u8; 8],
-}
-
-impl NodeBeside {
-    // The three numbers that stand for it.
-    fn numbers(self) -> Numbers
-        requires { ⌜ self .count ≤ 8 ⌝ }
-        ensures { λ r. ⌜ PackedIn r × (nodeFor r ≡ nodeBeside self) ⌝ }
-    {
-        let threads = self.threads;
-        let at = Configuration {
-            store: self.node,
-            count: self.count,
-            threads,
-        };
-        at.numbers()
-    }
-}
-
-// The node with threads beside it that three numbers stand for.
-pub fn node_of(x: Numbers) -> NodeBeside
-    requires { ⌜ PackedIn x ⌝ }
-    ensures { λ r. ⌜ (nodeBeside r ≡ nodeFor x) × (r .count ≤ 8) ⌝ }
-{
-    let at = sheet_types::configuration_of(x);
-    let threads = at.threads;
-    NodeBeside {
-        node: at.store,
-        count: at.count,
-        threads,
-    }
-}
-
-// Whether threads joined are not more than the limit, and the node with them beside it where they are not.
-pub struct Beside {
-    pub fits: bool,
-    pub at: NodeBeside,
-}
 
 // An entry that is there already, or the place where it is to be put in.
 struct Spot {
@@ -145,7 +101,7 @@ fn spot_of(work: &[u32], top: usize, n: usize, x: Numbers) -> Spot
 // Moves the numbers from `from` on, below `to`, three places up.
 fn raise(work: &mut [u32], from: usize, to: usize)
     requires { ⌜ (from ≤ to) × (to + 3 ≤ length (now work)) ⌝ }
-    ensures { λ _. ⌜ RaisedThree (now (work .entry)) from to (now (work .exit)) ⌝ }
+    ensures { λ _. ⌜ Raised 3 (now (work .entry)) from to (now (work .exit)) ⌝ }
 {
     let mut i: usize = to;
     while from < i {
@@ -177,77 +133,4 @@ pub fn enter(work: &mut [u32], top: usize, n: usize, node: u16, e: NodeBeside) -
     raise(work, at, end);
     number_lists::put_three(work, at, x.a, x.b, x.c);
     top + 1
-}
-
-// The first n threads, which stand in ascending order, with so many others put in their places.
-fn insert_from(opened: &[u8], from: usize, more: usize, old: [u8; 8], n: usize) -> [u8; 8]
-    requires { ⌜ (from + more ≤ length (now opened)) × (n + more ≤ 8) × NotFalling (take n old) ⌝ }
-    ensures { λ r. ⌜ take (n + more) r ≡ insertAll (take n old) (take more (drop from (now (opened .entry)))) ⌝ }
-{
-    let mut threads = old;
-    let mut i: usize = 0;
-    while i < more {
-        let longer = node_opening::insert(threads, n + i, opened[from + i]);
-        threads = longer;
-        i += 1;
-    }
-    threads
-}
-
-// e with the threads that node q opens to put among its own; e itself where they are more than the limit.
-pub fn put_beside(
-    counts: &[u8; 64],
-    opened: &[u8; 512],
-    e: NodeBeside,
-    q: usize,
-    limit: usize,
-) -> Beside
-    requires { ⌜ (q < 64) × (e .count ≤ limit) × (limit ≤ 8) × (getD (now counts) q 0 ≤ 8) × NotFalling (nodeBeside e .threads) ⌝ }
-    ensures { λ r. ⌜ PutBeside (take (getD (now (counts .entry)) q 0) (drop (8 * q) (now (opened .entry)))) e limit r ⌝ }
-{
-    let n = e.count as usize;
-    let more = node_opening::wide(counts[q]);
-    let table: &[u8] = opened;
-    if limit < n + more {
-        return Beside { fits: false, at: e };
-    }
-    let old = e.threads;
-    let threads = insert_from(table, 8 * q, more, old, n);
-    let count = (n + more) as u8;
-    Beside {
-        fits: true,
-        at: NodeBeside {
-            node: e.node,
-            count,
-            threads,
-        },
-    }
-}
-
-// What is put at place j, where x stands, with y in the next place, when the thread at place i is taken out: x below place i, else y.
-fn later(x: u8, y: u8, i: usize, j: usize) -> u8
-    ensures { λ r. ⌜ (j < i → r ≡ x) × (i ≤ j → r ≡ y) ⌝ }
-{
-    if j < i { x } else { y }
-}
-
-// The thread at place i with the others beside it.
-pub fn thread_beside(e: Configuration, i: usize) -> NodeBeside
-    requires { ⌜ (i < e .count) × (e .count ≤ 8) ⌝ }
-    ensures { λ r. ⌜ (nodeBeside r ≡ threadAt (configuration e) i) × (r .count + 1 ≡ e .count) ⌝ }
-{
-    let own = e.threads;
-    let node = own[i] as u16;
-    let mut threads = e.threads;
-    let mut j: usize = 0;
-    while j < 7 {
-        threads[j] = later(threads[j], threads[j + 1], i, j);
-        j += 1;
-    }
-    let count = e.count - 1;
-    NodeBeside {
-        node,
-        count,
-        threads,
-    }
 }

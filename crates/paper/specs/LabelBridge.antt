@@ -1,11 +1,12 @@
 -- The labels that document 01 computes for an ask are those of the paper's rule LR2: the minimal constraints that, joined with
 -- the store, entail the asked one.
 use mathlib.Core.Path.{_≡_, refl}
+use borrow.Author.Tests.{not-true}
 use mathlib.Core.Logic.{_↔_}
 use mathlib.Core.Bool.{Bool, true, false, not, _&&_}
 use mathlib.Core.List.{List·Memᴰ}
 use Prim.Native.Nat.{ℕ}
-use Rattle.list_laws.specs.TestLaws.{true-false, and-left, and-right, and-intro, not-back, not-passes}
+use Rattle.list_laws.specs.TestLaws.{true-false, and-left, and-right, and-intro, not-passes}
 use Rattle.lists.specs.Lists.{any}
 use Rattle.list_laws.specs.Members.{mem-select, select-mem, any-yes, any-no}
 use Rattle.stores.specs.Stores.{join, strictlyBelow}
@@ -25,7 +26,7 @@ module _ (s : Sheet) (d c : ℕ) where
   label-is-minimal a m =
       let x = mem-select (isMinimal (makesTrue s d c) (constraints s)) (constraints s) m in
       let none : any (lower a) (constraints s) ≡ false =
-      not-back (any (lower a) (constraints s)) (and-right (makesTrue s d c a) (not (any (lower a) (constraints s))) (x .1)) in
+      not-true (any (lower a) (constraints s)) (and-right (makesTrue s d c a) (not (any (lower a) (constraints s))) (x .1)) in
       record {
         constraint = constraints-only s (x .0);
         entails = includes-within (join (s .rules) d a) c (and-left (makesTrue s d c a) (not (any (lower a) (constraints s))) (x .1));

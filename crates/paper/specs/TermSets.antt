@@ -1,22 +1,25 @@
 -- Source 001, Theorem 2, over the paper's own configurations of any processes: where finitely many are reachable from the
--- seeds, IS* is finite. Each of it is a reachable one with a constraint joined to its store.
+-- seeds, IS* is finite. Each of it is a reachable one with a constraint joined to its store. So Algorithm 2 ends (Proposition 2).
 use mathlib.Core.Path.{_≡_, sym, ap, _∙_, subst}
 use mathlib.Core.List.{List, map, List·Memᴰ}
 use Prim.Native.Nat.{ℕ}
-use Rattle.list_laws.specs.Members.{map-mem, concatMap-mem}
+use Rattle.list_laws.specs.Members.{mem-map, map-mem, concatMap-mem}
 use Rattle.lists.specs.Lists.{concatMap}
 use Rattle.stores.specs.Stores.{Closed, join, leastStore}
 use Rattle.store_laws.specs.StoreLaws.{join-closed}
-use Rattle.sheets.specs.Sheet.{Sheet}
-use Rattle.sheets.specs.WellFormed.{WellFormed}
+use Rattle.sheets.specs.Sheet.{Configuration, Sheet}
+use Rattle.sheets.specs.WellFormed.{OfSheet, WellFormed}
 use Rattle.moves.specs.Moves.{constraints}
 use Rattle.move_laws.specs.LabelLaws.{constraints-all, least-constraint}
 use Rattle.comparison_laws.specs.SheetMoves.{conclusions-fit, join-constraint}
-use Rattle.paper.specs.Terms.{Conf}
+use Rattle.paper.specs.Terms.{Conf, Reads}
 use Rattle.paper.specs.Bisimulations.{Con, Reduces, Moves, with-added}
 use Rattle.paper.specs.Agreement.{transition-sound, transition-constraint}
 use Rattle.paper.specs.Adding.{added-least, added-twice, origin}
 use Rattle.paper.specs.Algorithm.{Starred, IS, RS, RD}
+use Rattle.paper.specs.ReadsOfSheet.{reads-of-sheet}
+use Rattle.paper.specs.AlgorithmLaws.{readingOf, reads-one, SeedsAgree}
+use Rattle.paper.specs.Proposition2.{EndsAs, algorithm-2-finite}
 
 -- Config(IS): the seeds and what transitions reach from them
 pub data ReachableTerm (s : Sheet) (seeds : List Conf) : Conf → Type 0 where
@@ -82,3 +85,27 @@ theorem-2-terms s wf seeds of xs all x m =
     subst (λ (y : Conf). List·Memᴰ y (withAllTerms s xs)) (sym (h .is))
     (concatMap-mem (λ e. map (with-added s e) xs) (constraints s) (constraints-all s (h .constraint) (h .is-constraint))
     (map-mem (with-added s (h .constraint)) (all (h .base) (h .reachable))))
+
+-- Proposition 2 with Theorem 2: where finitely many configurations are reachable from processes made of nodes, Algorithm 2 ends,
+-- and the blocks of its last partition are those of ∼sb.
+pub reachable-terms-end : (s : Sheet) → WellFormed s → (starts : List Conf) → ((x : Conf) → List·Memᴰ x starts → Con s (x .store))
+    → ((x : Conf) → List·Memᴰ x starts → (p : Configuration) × Reads s x p) → (first-start : Conf) → List·Memᴰ first-start starts
+    → (xs : List Conf) → ((x : Conf) → ReachableTerm s starts x → List·Memᴰ x xs) → EndsAs s starts
+reachable-terms-end s wf starts of reads first-start started xs all =
+    algorithm-2-finite s wf seeds in-sheet (readingOf s first-start) (map-mem (readingOf s) started)
+    starts agree (withAllTerms s xs) (theorem-2-terms s wf starts of xs all)
+  where
+    seeds : List Configuration
+    seeds = map (readingOf s) starts
+
+    read : (x : Conf) → List·Memᴰ x starts → Reads s x (readingOf s x)
+    read x m = let r = reads x m in subst (Reads s x) (reads-one s x (r .0) (r .1)) (r .1)
+
+    written : (p : Configuration) → List·Memᴰ p seeds → (x : Conf) × List·Memᴰ x starts × Reads s x p
+    written p m = let x = mem-map (readingOf s) starts m in (x .0, x .1, subst (Reads s (x .0)) (sym (x .2)) (read (x .0) (x .1)))
+
+    agree : SeedsAgree s starts seeds
+    agree = record { read = λ x m. (readingOf s x, map-mem (readingOf s) m, read x m); written = written }
+
+    in-sheet : (p : Configuration) → List·Memᴰ p seeds → OfSheet s p
+    in-sheet p m = let x = written p m in reads-of-sheet s wf (x .0) p (of (x .0) (x .1)) (x .2)

@@ -1,24 +1,19 @@
 -- What the writer of a report asks of the work slice, and what agrees with a report of document 01.
 use mathlib.Core.Path.{_≡_}
 use mathlib.Core.List.{List, map}
-use Prim.Native.Nat.{ℕ, _+_, _*_, _≤_, _<_}
+use Prim.Native.Nat.{ℕ, _≤_, _<_}
 use lib.ListN.{length, getD}
 use Rattle.lists.specs.Lists.{Ascends}
 use Rattle.list_laws.specs.Tabulate.{tabulate}
 use Rattle.sheets.specs.Sheet.{Configuration}
 use Rattle.moves.specs.Orders.{configurationBefore}
-use Rattle.packing.specs.Packing.{Packed}
 use Rattle.work_layout.specs.SetLayout.{setIn}
 use Rattle.comparison.specs.Classes.{placeOf}
 use Rattle.comparison.specs.Trail.{TrailStep}
 use Rattle.comparison.specs.Report.{Report, sideByte, replyNumber}
-use Rattle.report_bytes.specs.ReportLayout.{sideIn, labelIn, targetIn, replyIn}
-use Rattle.work_layout.specs.WorkLayout.{workEnd, membersAt}
+use Rattle.report_records.specs.RecordLayout.{PackedAt, sideIn, labelIn, targetIn, replyIn}
+use Rattle.work_layout.specs.WorkLayout.{workEnd}
 use Rattle.work_layout.specs.ClassLayout.{classIn}
-
--- the numbers of the member at place i stand for a configuration
-abbrev pub PackedAt : List ℕ → ℕ → Type 0
-PackedAt w i = Packed (getD w (membersAt + 3 * i) 0) (getD w (membersAt + 3 * i + 1) 0) (getD w (membersAt + 3 * i + 2) 0)
 
 -- n members can be read from the slice
 pub record MembersHeld (w : List ℕ) (n : ℕ) : Type 0 where

@@ -17,7 +17,8 @@ use Rattle.comparison_laws.specs.ClassLaws.{placeOf-lt, placeOf-at}
 use Rattle.comparison.specs.Trail.{TrailStep}
 use Rattle.sheets.specs.SheetBytes.{wordBytes}
 use Rattle.comparison.specs.Report.{Report, memberBytes, membersBytes, stepBytes, reportBytes}
-use Rattle.report_bytes.specs.ReportLayout.{memberBytesAt, stepBytesAt, heldBytes}
+use Rattle.report_records.specs.RecordLayout.{memberBytesAt, stepBytesAt}
+use Rattle.report_bytes.specs.ReportLayout.{heldBytes}
 use Rattle.report_bytes.specs.ReportInSlice.{StepNumbers, stepIn, stepNumbers, Agrees}
 use Rattle.work_layout.specs.ClassLayout.{classIn}
 

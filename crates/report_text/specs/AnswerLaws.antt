@@ -15,8 +15,9 @@ use Rattle.comparison_laws.specs.ClassLaws.{position-le}
 use Rattle.comparison.specs.Trail.{Side, left, right, Reply, none, move, TrailStep}
 use Rattle.comparison.specs.Report.{memberBytes, stepBytes, sideByte, replyNumber}
 use Rattle.comparison.specs.Print.{memberLine, stepLine, sideLetter, replyText}
-use Rattle.report_text.specs.TextLaws.{reply-some}
-use Rattle.report_text.specs.AnswerText.{threadCount, threadsIn, memberIn, classIn, memberEnd, memberText, letterOf, replyOf, stepText, stepEnd}
+use Rattle.report_fields.specs.TextLaws.{reply-some}
+use Rattle.report_fields.specs.AnswerFields.{threadCount, threadsIn, letterOf, replyOf}
+use Rattle.report_text.specs.AnswerText.{memberIn, classIn, memberEnd, memberText, stepText, stepEnd}
 
 -- ---- a byte, a two-byte number and what follows
 byte-read : (s l : List ℕ) (at j : ℕ) → drop at s ≡ l → getD s (at + j) 0 ≡ getD l j 0

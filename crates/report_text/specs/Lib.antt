@@ -1,6 +1,5 @@
 pub mod Runs
 pub mod AnswerText
-pub mod TextLaws
 pub mod AnswerLaws
 pub mod ReportText
 pub mod ReportTextLaws

@@ -21,8 +21,9 @@ use Rattle.comparison_laws.specs.MemberPlaces.{place-of-member}
 use Rattle.text.specs.Slices.{Stored}
 use Rattle.text.specs.StoredText.{stored-length}
 use Rattle.report_text.specs.Runs.{run-whole}
-use Rattle.report_text.specs.AnswerText.{wordOf, countIn, memberText, memberEnd, membersText, membersEnd, stepText, stepEnd, stepsText, trailPlace, answerText}
-use Rattle.report_text.specs.TextLaws.{stored-front}
+use Rattle.report_fields.specs.AnswerFields.{countIn}
+use Rattle.report_text.specs.AnswerText.{wordOf, memberText, memberEnd, membersText, membersEnd, stepText, stepEnd, stepsText, trailPlace, answerText}
+use Rattle.report_fields.specs.TextLaws.{stored-front}
 use Rattle.report_text.specs.AnswerLaws.{word-read, word-rest, member-read, member-text, step-read}
 use Rattle.report_text.specs.ReportText.{isSame, ReportWritten}
 

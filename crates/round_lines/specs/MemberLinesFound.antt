@@ -27,7 +27,8 @@ use Rattle.work_layout.specs.SetLayout.{memberAt, firstMove, moveTotal}
 use Rattle.comparison.specs.Rounds.{redundant}
 use Rattle.kept_classes.specs.MemberLines.{packedLine, lineOf, linesOf, lines-ascend, line-in, line-only}
 use Rattle.dominators.specs.KeptMoves.{noMove, moveOf, MoveKept, RoundHeld, MemberHeld, span-count, span-line}
-use Rattle.dominators.specs.SliceShapes.{KeptFits, Stands, stands-same, SpanFits, SpanOnly, only-none, only-then, MemberOnly, LinedOnly, span-lined, lined-class, lined-member, lined-fits}
+use Rattle.dominance_tests.specs.KeptNumbers.{KeptFits}
+use Rattle.dominators.specs.SliceShapes.{Stands, stands-same, SpanFits, SpanOnly, only-none, only-then, MemberOnly, LinedOnly, span-lined, lined-class, lined-member, lined-fits}
 use Rattle.dominators.specs.DominatorSearch.{Judged}
 use Rattle.work_layout.specs.WorkLayout.{movesAt, dominatorsAt, lineTotalsAt, classesAt, linesAt}
 use Rattle.work_layout.specs.ClassLayout.{classIn}

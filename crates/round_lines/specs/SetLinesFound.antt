@@ -16,7 +16,8 @@ use Rattle.work_layout.specs.SetLayout.{memberAt, firstMove, moveTotal}
 use Rattle.kept_classes.specs.MemberLines.{linesOf}
 use Rattle.kept_classes.specs.RoundLayout.{held-member-same}
 use Rattle.dominators.specs.KeptMoves.{MoveKept, DominatorsKept, RoundHeld}
-use Rattle.dominators.specs.SliceShapes.{KeptFits, keptAt, targetAt, Stands, stands-same, SpanFits, Shape, LinedOnly, lined-none, lined-then, member-lined, lined-set, lined-class, lined-first, lined-total, lined-round, lined-fits}
+use Rattle.dominance_tests.specs.KeptNumbers.{KeptFits}
+use Rattle.dominators.specs.SliceShapes.{keptAt, targetAt, Stands, stands-same, SpanFits, Shape, LinedOnly, lined-none, lined-then, member-lined, lined-set, lined-class, lined-first, lined-total, lined-round, lined-fits}
 use Rattle.round_lines.specs.MemberLinesFound.{lineTotal, MemberDone}
 use Rattle.round_lines.specs.WatchingMembers.{SetsGrown, grown-none, grown-then, MoveWatched, MemberWatches}
 use Rattle.work_layout.specs.WorkLayout.{movesAt, dominatorsAt, lineTotalsAt, linesAt}

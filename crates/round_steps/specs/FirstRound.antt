@@ -9,8 +9,8 @@ use native.Mathlib.Numerals.{add-one}
 use lib.ListN.{length, getD, set, length-set}
 use lib.Seq.{getD-set-same, getD-set-other}
 use lib.Dec.{eqb}
-use borrow.Author.Tests.{eqb-true, eqb-false, eq-eqb}
-use Rattle.list_laws.specs.TestLaws.{true-false, not-passes, not-back, Tested, tested, passes, fails}
+use borrow.Author.Tests.{eqb-true, eqb-false, eq-eqb, not-true}
+use Rattle.list_laws.specs.TestLaws.{true-false, not-passes, Tested, tested, passes, fails}
 use Rattle.list_laws.specs.Frames.{SameOutside, outside-same, outside-set, outside-again}
 use Rattle.work_layout.specs.SetLayout.{memberAt}
 use Rattle.class_splits.specs.ClassedPlaces.{chosenIn, Classed, classed-new, classed-append}
@@ -35,7 +35,7 @@ told-first w i e = record { another = λ h l. absurd (omega arith); same = λ h.
 
 pub told-later : (w : List ℕ) (i a b : ℕ) → 0 < i → a ≡ storeIn w (i - 1) → b ≡ storeIn w i → StoreTold w i (not (eqb a b))
 told-later w i a b h ea eb = record {
-  another = λ t l e. true-false (eqb a b) (eq-eqb a b (ea ∙ e ∙ sym eb)) (not-back (eqb a b) t);
+  another = λ t l e. true-false (eqb a b) (eq-eqb a b (ea ∙ e ∙ sym eb)) (not-true (eqb a b) t);
   same = λ t. (h, sym ea ∙ eqb-true a b (go (tested (eqb a b)) t) ∙ eb);
 }
   where

@@ -1,8 +1,7 @@
 -- Numbers by first member are the classes of the report: they tell the same members apart, and go up by first member.
 use mathlib.Core.Path.{_≡_, refl, sym, ap, ap₂, _∙_}
 use mathlib.Core.Logic.{_↔_, _⊎_, inl, inr}
-use mathlib.Core.Bool.{Bool, cond}
-use mathlib.Core.List.{List, [], _∷_, _++_}
+use mathlib.Core.List.{List, []}
 use Prim.Native.Nat.{ℕ, zero, suc, _+_, _≤_, _<_}
 use native.Mathlib.Omega.{arith}
 use lib.ListN.{length, getD}
@@ -14,8 +13,9 @@ use Rattle.list_laws.specs.Frames.{SameOutside, outside-then}
 use Rattle.list_laws.specs.Tabulate.{tabulate-length, tabulate-at}
 use Rattle.sheets.specs.Sheet.{Configuration, Sheet}
 use Rattle.work_layout.specs.SetLayout.{memberAt, SetHeld}
-use Rattle.comparison.specs.Classes.{position, numberedFrom, classOf, share}
+use Rattle.comparison.specs.Classes.{classOf, share}
 use Rattle.comparison.specs.Rounds.{classes, rounds}
+use Rattle.comparison_laws.specs.ClassLaws.{numbered-length}
 use Rattle.comparison_laws.specs.RoundLaws.{share-round}
 use Rattle.comparison_laws.specs.ResultLaws.{classes-by-first, rounds-at}
 use Rattle.kept_classes.specs.SetClasses.{present-numbered}
@@ -47,14 +47,6 @@ pub rounds-number-ready : {sheet : Sheet} {set : List Configuration} {w : List �
     → NumberReady w n
 rounds-number-ready {count = count} H =
     record { count = count; classed = H .classed; few = H .ready .held .few .0; long = H .ready .held .long }
-
--- a number for each element
-numbers-count : {A : Type 0} (test : A → A → Bool) (firsts ps : List A) → length (numberedFrom test firsts ps) ≡ length ps
-unfolding numberedFrom
-numbers-count test firsts [] = refl
-numbers-count test firsts (p ∷ ps) =
-    let k : ℕ = position (λ f. test f p) firsts in
-    ap suc (numbers-count test (cond (eqb k (length firsts)) (firsts ++ (p ∷ [])) firsts) ps)
 
 -- the number at place i is one of an earlier place, or the least that no earlier place has
 abbrev At : (ℕ → ℕ) → ℕ → Type 0
@@ -110,7 +102,7 @@ module _ (v : List ℕ) (n : ℕ) (w : List ℕ) (total : ℕ) (N : Numbering v 
         (classOf set (classesIn v n))
         (places-present sheet set nobody (H .ready .wf) (fromIn v) (bornIn v) count r (classesIn v n) (H .present))
         (classesIn v n) (λ p k. refl)))
-        ∙ numbers-count (λ p q. eqb (classOf set (classesIn v n) p) (classOf set (classesIn v n) q)) [] set ∙ size
+        ∙ numbered-length (λ p q. eqb (classOf set (classesIn v n) p) (classOf set (classesIn v n) q)) [] set ∙ size
 
     -- two places have one class in the report where they have one in v
     report-same : (i j : ℕ) → i < n → j < n → (classIn v i ≡ classIn v j) ↔ (getD (classes sheet set r) i 0 ≡ getD (classes sheet set r) j 0)

@@ -34,7 +34,8 @@ use Rattle.class_rounds.specs.RoundAtHand.{nobody, TogetherHeld, SetReady}
 use Rattle.class_rounds.specs.RoundsDone.{Ready, RoundsHeld, Refined, ready-same}
 use Rattle.separations.specs.ApartClasses.{rounds-apart}
 use Rattle.separations.specs.ReportClasses.{NumberReady, Renumbered}
-use Rattle.report_bytes.specs.ReportLayout.{sideIn, heldBytes}
+use Rattle.report_records.specs.RecordLayout.{sideIn}
+use Rattle.report_bytes.specs.ReportLayout.{heldBytes}
 use Rattle.report_bytes.specs.ReportInSlice.{StepNumbers, stepIn, stepNumbers, ReportHeld, Agrees}
 use Rattle.report_bytes.specs.ReportInSliceLaws.{held-report}
 use Rattle.telling_moves.specs.TrailLayout.{apartAt, TrailHeld, BirthsHeld, Followable}

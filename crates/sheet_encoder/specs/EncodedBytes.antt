@@ -9,8 +9,8 @@ use Rattle.list_laws.specs.Members.{mem-concatMap}
 use Rattle.sheets.specs.Sheet.{Node, stop, tell, ask, both, either, Sheet}
 use Rattle.sheets.specs.SheetBytes.{wordBytes}
 use Rattle.sheets.specs.WellFormed.{Admissible}
+use Rattle.sheet_laws.specs.OpeningLaws.{opened-inside}
 use Rattle.sheet_encoder.specs.Encoder.{NamesFit, ruleBytes, nodeBytes, startBytes, sectionBytes, encode}
-use Rattle.sheet_encoder.specs.EncodedRecords.{opened-inside}
 
 abbrev Bytes : List ℕ → Type 0
 Bytes xs = (b : ℕ) → List·Memᴰ b xs → b < 256

@@ -2,7 +2,7 @@
 -- range, the sets are closed already, and the threads of a start open to themselves.
 use mathlib.Core.Path.{_≡_, refl, sym, subst, ap, ap₂, _∙_}
 use mathlib.Core.List.{List, [], _∷_, _++_, append-assoc, List·Memᴰ, List·Memᴰ·head, List·Memᴰ·tail, Memᴰ·append-right}
-use Prim.Native.Nat.{ℕ, zero, suc, _+_, _≤_, _<_}
+use Prim.Native.Nat.{ℕ, _+_, _≤_, _<_}
 use native.Mathlib.Omega.{arith}
 use lib.ListN.{length, getD, length-append, List·getD-append, List·getD-eq-default}
 use lib.Seq.{getD-append-seam}
@@ -14,11 +14,11 @@ use Rattle.lists.specs.Lists.{sortUp, concatMap}
 use Rattle.stores.specs.Stores.{Rule, Constraint, closure}
 use Rattle.store_laws.specs.StoreLaws.{closure-same}
 use Rattle.sheets.specs.SheetLimits.{maxFacts, maxNodes, maxThreads, maxKind, nameLength, nodeLength}
-use Rattle.sheets.specs.Sheet.{Node, stop, tell, ask, both, either, Configuration, nodeOf, openingOf, openWithin, opened, openedAll}
+use Rattle.sheets.specs.Sheet.{Node, stop, tell, ask, both, either, Configuration, nodeOf, opened, openedAll}
 use Rattle.sheets.specs.SheetBytes.{Field, threadCount, set, premise, kind, thread, width, wordBytes, Printable, FieldIs, NameIs, SectionIs, RuleIs, KindIs, is-stop, is-tell, is-ask, is-both, is-either, NodeFieldsAre, fields, threadsOf, NodeIs, ThreadIs, StartIs, start}
 use Rattle.sheets.specs.WellFormed.{Process, RuleFits, NodeFits}
 use Rattle.sheet_laws.specs.Ranks.{OfParts, Part, Ranked, rankOf, parts-map}
-use Rattle.sheet_laws.specs.OpeningLaws.{opening-prefix}
+use Rattle.sheet_laws.specs.OpeningLaws.{opening-prefix, opened-inside}
 use Rattle.sheet_encoder.specs.Encoder.{ruleBytes, nodeBytes, startBytes}
 use Rattle.sheet_encoder.specs.StandingBytes.{Stands, stands-front, stands-rest, WordFits, byte-field, word-field, threads-fit, kind-fits, thread-fits, set-fits, premise-fits, below-fits, unused-fits, section-stands}
 
@@ -130,21 +130,6 @@ module _ {facts : ℕ} (few : facts ≤ maxFacts) (rules : List Rule) {nodes : L
       }
 
 -- ---- starts
--- only a node of the list opens to itself
-pub opened-inside : (ns : List Node) (k : ℕ) → opened ns k ≡ k ∷ [] → k < length ns
-unfolding openWithin
-opened-inside ns k e = go (tested (ltb k (length ns)))
-  where
-    beyond : (f : ℕ) → nodeOf ns k ≡ stop → openWithin f ns k ≡ []
-    beyond zero z = refl
-    beyond (suc f) z = ap (openingOf (openWithin f ns) k) z
-
-    go : Tested (ltb k (length ns)) → k < length ns
-    go (passes t) = ltb-true k (length ns) t
-    go (fails t) =
-        let none : opened ns k ≡ [] = beyond (length ns) (List·getD-eq-default ns stop {n = k} (ltb-false k (length ns) t)) in
-        absurd (omega (arith, ap length (sym none ∙ e)))
-
 -- each number put in a list of its own, and the lists one after another
 concatMap-single : (f : ℕ → List ℕ) (ks : List ℕ) → ((k : ℕ) → List·Memᴰ k ks → f k ≡ k ∷ []) → concatMap f ks ≡ ks
 concatMap-single f [] h = refl

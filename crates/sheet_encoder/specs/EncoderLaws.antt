@@ -13,7 +13,7 @@ use Rattle.sheets.specs.SheetBytes.{factCount, ruleCount, nodeCount, startCount
 use Rattle.sheets.specs.WellFormed.{Admissible}
 use Rattle.sheet_reading.specs.Reading.{got, readSheet}
 use Rattle.sheet_reading.specs.SheetRead.{sheet-reads}
-use Rattle.sheet_laws.specs.ReadingLaws.{read-admissible, well-formed-ranked}
+use Rattle.sheet_laws.specs.ReadingLaws.{written-admissible, well-formed-ranked}
 use Rattle.sheet_encoder.specs.Encoder.{NamesFit, ruleBytes, nodeBytes, startBytes, sectionBytes, encode}
 use Rattle.sheet_encoder.specs.StandingBytes.{Stands, stands-whole, stands-front, stands-rest, facts-fit, rules-fit, nodes-fit, starts-fit, section-stands}
 use Rattle.sheet_encoder.specs.EncodedRecords.{name-stands, rule-stands, node-stands, start-stands, record-there}
@@ -144,9 +144,8 @@ names-fit s at next names h =
 pub encoded-again : (s : List ℕ) (sheet : Sheet) → SheetIs s sheet
     → (names : List (List ℕ)) × NamesFit (sheet .facts) names × SheetIs (encode names sheet) sheet × (p : ℕ) × FactsAre s 0 names p
 encoded-again s sheet h =
-    let fine : Admissible sheet = read-admissible s sheet (length s) (sheet-reads s .is-got sheet (length s) (h, refl)) in
     let n = names-of h in
-    (n .0, n .1, encoded (n .0) sheet (n .1) fine, n .2, n .3)
+    (n .0, n .1, encoded (n .0) sheet (n .1) (written-admissible s sheet h), n .2, n .3)
   where
     names-of : {sheet : Sheet} {end : ℕ} → SectionsAre s sheet end → (names : List (List ℕ)) × NamesFit (sheet .facts) names × (p : ℕ) × FactsAre s 0 names p
     names-of (sections {p = p} {names = names} a b c d) = (names, names-fit s 0 p names a, p, a)

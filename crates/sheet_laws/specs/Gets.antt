@@ -12,10 +12,6 @@ pub record Gets {A : Type 0} (P : A → ℕ → Type 0) (r : Reading A) : Type 0
 pub gets-less : {A : Type 0} {P Q : A → ℕ → Type 0} {r : Reading A} → ((v : A) (next : ℕ) → P v next → Q v next) → Gets P r → Gets Q r
 gets-less f h = record { holds = λ v next e. f v next (h .holds v next e) }
 
--- what is got is got
-pub itself-gets : {A : Type 0} (r : Reading A) → Gets (λ v next. r ≡ got v next) r
-itself-gets r = record { holds = λ v next e. e }
-
 module _ {A : Type 0} (P : A → ℕ → Type 0) where
   pub got-gets : (v : A) (next : ℕ) → P v next → Gets P (got v next)
   got-gets v next h = record { holds = λ w n e. cast w n e }

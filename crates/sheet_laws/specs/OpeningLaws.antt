@@ -13,6 +13,7 @@ use borrow.Author.Tests.{ltb-true, ltb-false}
 use Rattle.list_laws.specs.AscendingLaws.{sortUp-notFalling, sortUp-only}
 use Rattle.lists.specs.Lists.{concatMap}
 use Rattle.list_laws.specs.Members.{mem-concatMap}
+use Rattle.list_laws.specs.TestLaws.{Tested, passes, fails, tested}
 use Rattle.sheets.specs.Sheet.{Node, stop, tell, ask, both, either, nodeOf, openingOf, openWithin, opened, openedAll}
 use Rattle.sheets.specs.WellFormed.{Process}
 use Rattle.sheet_laws.specs.Ranks.{OfParts, Part, Ranked, rankOf, parts-map}
@@ -133,6 +134,21 @@ thread-opens ns (suc f) k j m = go (λ i o. thread-opens ns f i j o) (nodeOf ns 
 -- what is opened opens to itself
 pub opened-opens : (ns : List Node) (k : ℕ) {j : ℕ} → List·Memᴰ j (opened ns k) → opened ns j ≡ j ∷ []
 opened-opens ns k {j} m = thread-opens ns (length ns) k j m
+
+-- only a node of the list opens to itself
+pub opened-inside : (ns : List Node) (k : ℕ) → opened ns k ≡ k ∷ [] → k < length ns
+unfolding openWithin
+opened-inside ns k e = go (tested (ltb k (length ns)))
+  where
+    beyond : (f : ℕ) → nodeOf ns k ≡ stop → openWithin f ns k ≡ []
+    beyond zero z = refl
+    beyond (suc f) z = ap (openingOf (openWithin f ns) k) z
+
+    go : Tested (ltb k (length ns)) → k < length ns
+    go (passes t) = ltb-true k (length ns) t
+    go (fails t) =
+        let none : opened ns k ≡ [] = beyond (length ns) (List·getD-eq-default ns stop {n = k} (ltb-false k (length ns) t)) in
+        absurd (omega (arith, ap length (sym none ∙ e)))
 
 -- the threads that any nodes open to are a process
 pub opened-process : (nodes : List Node) (ks : List ℕ) → Process nodes (openedAll nodes ks)

@@ -5,8 +5,8 @@ use mathlib.Core.List.{List}
 use Prim.Native.Nat.{ℕ, _≤_, _<_}
 use native.Mathlib.Omega.{arith}
 use lib.ListN.{length, List·getD-eq-default}
-use lib.Dec.{leb, ltb}
-use borrow.Author.Tests.{ltb-true, ltb-false, leb-false, lt-ltb, le-ltb, le-leb, lt-leb}
+use lib.Dec.{ltb}
+use borrow.Author.Tests.{ltb-true, ltb-false, lt-ltb, le-ltb, le-leb, lt-leb}
 use Rattle.list_laws.specs.TestLaws.{Tested, passes, fails, tested}
 use Rattle.stores.specs.Stores.{Rule, leastStore}
 use Rattle.store_laws.specs.StoreLaws.{least-store-empty}
@@ -17,7 +17,7 @@ use Rattle.sheet_reading.specs.SheetRead.{sheet-reads}
 use Rattle.sheet_reading.specs.Reading.{got, refused, factsAt, rulesAt, nodesAt, startsAt, readSheet, readChoice}
 use Rattle.sheets.specs.WellFormed.{WellFormed, Admissible}
 use Rattle.sheet_laws.specs.Ranks.{OfParts, Part, Ranked, rankOf, parts-map}
-use Rattle.sheet_laws.specs.Gets.{Gets, itself-gets, got-gets, checked-gets, then-gets}
+use Rattle.sheet_laws.specs.Gets.{Gets, got-gets, checked-gets, then-gets}
 use Rattle.sheet_laws.specs.FieldLaws.{Taken, taken-then, facts-gets}
 use Rattle.sheet_laws.specs.SectionLaws.{rules-gets, nodes-gets, starts-gets, fits-lower}
 
@@ -104,27 +104,7 @@ pub written-admissible : (s : List ℕ) (sheet : Sheet) → SheetIs s sheet → 
 written-admissible s sheet h = read-admissible s sheet (length s) (sheet-reads s .is-got sheet (length s) (h, refl))
 
 -- ---- the choice of two starts
-pub record ChoiceRead (s : List ℕ) (left right : ℕ) (sheet : Sheet) (end : ℕ) : Type 0 where
-  pub read : readSheet s ≡ got sheet end
-  pub left-start : left < length (sheet .starts)
-  pub right-start : right < length (sheet .starts)
-
 module _ (s : List ℕ) (left right : ℕ) where
-  -- a choice that is read names starts of the sheet
-  pub choice-read : (sheet : Sheet) (end : ℕ) → readChoice s left right ≡ got sheet end → ChoiceRead s left right sheet end
-  unfolding readChoice
-  choice-read =
-      then-gets _ (ChoiceRead s left right) (readSheet s) _ (itself-gets (readSheet s)) (λ sheet end e.
-      checked-gets _ (leb (length (sheet .starts)) left) 14 0 _ (λ l.
-      checked-gets _ (leb (length (sheet .starts)) right) 14 1 _ (λ r.
-      got-gets _ sheet end (record { read = e; left-start = leb-false _ _ l; right-start = leb-false _ _ r })))) .holds
-
-  -- and the other way round
-  pub choice-of-read : (sheet : Sheet) (end : ℕ) → ChoiceRead s left right sheet end → readChoice s left right ≡ got sheet end
-  unfolding readChoice
-  choice-of-read sheet end c =
-      rw (c .read, lt-leb (length (sheet .starts)) left (c .left-start), lt-leb (length (sheet .starts)) right (c .right-start))
-
   -- a refusal of the sheet is handed up unaltered
   pub choice-no-sheet : {number place : ℕ} → readSheet s ≡ refused number place → readChoice s left right ≡ refused number place
   unfolding readChoice

@@ -7,8 +7,10 @@ use Rattle.list_laws.specs.Tabulate.{tabulate-length}
 use Rattle.set_closure.specs.RuleTable.{ruleIn, rulesIn}
 use Rattle.sheets.specs.SheetLimits.{maxRules}
 use Rattle.sheets.specs.Sheet as spec
+use Rattle.sheets.specs.SheetBytes.{ChoiceIs}
 use Rattle.sheet_reading.specs.Reading.{Reading, got, refused, readSheet, readChoice}
-use Rattle.sheet_laws.specs.ReadingLaws.{ChoiceRead, choice-of-read, choice-no-left, choice-no-right}
+use Rattle.sheet_reading.specs.SheetRead.{sheet-reads, choice-reads}
+use Rattle.sheet_laws.specs.ReadingLaws.{choice-no-left, choice-no-right}
 use Rattle.sheet_types.specs.HeldSheet.{nodesIn, configuration, noConfiguration, sheetOf, sheetRead}
 use Rattle.sheet_types.specs.SectionLaws.{refused-with, refused-never, with-got}
 use Rattle.sheet_types.specs.declared.Section.the-variants.{Got, Refused}
@@ -90,10 +92,11 @@ module _ (s : List ℕ) (left right : ℕ) (r : SheetRead) (found : SheetFound (
 
   pub found-chosen : left < n → right < n → SheetFound (readChoice s left right) r
   found-chosen l k =
-      let chosen : ChoiceRead s left right (sheetOf (r .sheet)) end =
-      record { read = found-sheet; left-start = rw found-starts l; right-start = rw found-starts k } in
+      let read = sheet-reads s .sound .got-is (sheetOf (r .sheet)) end found-sheet in
+      let chosen : ChoiceIs s left right (sheetOf (r .sheet)) =
+      record { written = read .0; left-there = rw found-starts l; right-there = rw found-starts k } in
       record {
-        reading = found .reading ∙ found-sheet ∙ sym (choice-of-read s left right (sheetOf (r .sheet)) end chosen);
+        reading = found .reading ∙ found-sheet ∙ sym (choice-reads s left right .is-got (sheetOf (r .sheet)) end (chosen, read .1));
         held = found .held;
         empty = found .empty;
       }

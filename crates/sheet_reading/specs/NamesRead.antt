@@ -1,22 +1,20 @@
 -- A name and the section of facts get and are refused what document 01 says of their bytes.
 use mathlib.Core.Path.{_≡_, refl, sym, subst, ap, _∙_}
-use mathlib.Core.Bool.{Bool, true, false, not, _&&_}
+use mathlib.Core.Bool.{Bool, true, false, not, _&&_, false≢true}
 use mathlib.Core.List.{List, [], _∷_, _++_}
 use Prim.Native.Nat.{ℕ, zero, suc, _+_, _≤_, _<_}
 use native.Mathlib.Omega.{arith}
-use lib.ListN.{length, getD, take, drop, length-take, length-drop}
-use lib.Seq.{getD-take, getD-drop}
+use lib.ListN.{length, getD, take, drop, length-take, length-drop, length-append}
+use lib.Seq.{getD-take, getD-drop, ext-getD}
 use lib.Dec.{leb, ltb}
-use borrow.Author.Tests.{ltb-true, ltb-false, lt-ltb, le-ltb, leb-true, leb-false, le-leb, lt-leb, not-true, not-false}
+use borrow.Author.Tests.{ltb-true, ltb-false, lt-ltb, le-ltb, leb-true, le-leb, not-true, not-false}
 use Rattle.sheets.specs.SheetLimits.{maxFacts, nameLength, firstPrintable, lastPrintable}
 use Rattle.sheets.specs.Refusals.{cutOff, unprintable, manyFacts}
-use Rattle.sheets.specs.SheetBytes.{factCount, FieldIs, Printable, NameIs, NameRefused, cut-off, outside, Right, RecordsAre, none, one-more, SectionIs, SectionRefused, by-count, by-record, FactIs, FactRefused, FactsAre}
-use Rattle.sheet_reading.specs.Reading.{Reading, got, refused, andThen, refusedIf, printable, nameBytes, nameAt, namesFrom, countAt, factsAt}
-use Rattle.sheet_reading.specs.Sound.{Sound, ReadsAs, sound-got, sound-refused, if-sound, then-sound, sound-as}
+use Rattle.sheets.specs.SheetBytes.{factCount, Printable, NameIs, NameRefused, cut-off, outside, SectionRefused, FactIs, FactRefused, FactsAre}
+use Rattle.sheet_reading.specs.Reading.{Reading, got, refused, andThen, refusedIf, recordsFrom, printable, nameBytes, nameAt, namesFrom, countAt, factsAt}
+use Rattle.sheet_reading.specs.Sound.{Sound, ReadsAs, sound-got, if-sound, then-sound, sound-as, value-reads}
 use Rattle.sheet_reading.specs.FieldsRead.{facts-count-reads}
-
-true-not-false : true ≡ false → ⊥
-true-not-false t = let z : _≡_ {A = ℕ} 0 1 = cc in omega arith
+use Rattle.sheet_reading.specs.RecordsRead.{section-reads}
 
 -- ---- one byte of a name
 inside : (b : ℕ) → printable b ≡ true → Printable b
@@ -24,14 +22,14 @@ inside b e = go (leb firstPrintable b) (leb b lastPrintable) refl refl e
   where
     go : (x y : Bool) → leb firstPrintable b ≡ x → leb b lastPrintable ≡ y → (x && y) ≡ true → Printable b
     go true true u w t = record { low = leb-true _ _ u; high = leb-true _ _ w }
-    go true false u w t = absurd (true-not-false (sym t))
-    go false y u w t = absurd (true-not-false (sym t))
+    go true false u w t = absurd (false≢true t)
+    go false y u w t = absurd (false≢true t)
 
 inside-test : (b : ℕ) → Printable b → printable b ≡ true
 inside-test b h = rw (le-leb firstPrintable b (h .low), le-leb b lastPrintable (h .high))
 
 not-inside : (b : ℕ) → printable b ≡ false → Printable b → ⊥
-not-inside b e h = true-not-false (sym (inside-test b h) ∙ e)
+not-inside b e h = false≢true (sym e ∙ inside-test b h)
 
 not-inside-test : (b : ℕ) → (Printable b → ⊥) → printable b ≡ false
 not-inside-test b h = go (printable b) refl
@@ -112,27 +110,27 @@ module _ (s : List ℕ) (at : ℕ) where
         after = refl;
       }
 
-  pub name-sound : Sound (λ v next. (name : List ℕ) × NameIs s at name next) (NameRefused s at) (nameAt s at)
+  name-sound : Sound (λ v next. NameIs s at (take nameLength (drop at s)) next) (NameRefused s at) (nameAt s at)
   unfolding nameAt
   name-sound =
       if-sound (ltb (length s) (at + nameLength)) cutOff (length s) (nameBytes nameLength s at) (λ e. cut-off (ltb-true _ _ e))
       (λ e. let l : at + nameLength ≤ length s = ltb-false (length s) (at + nameLength) e in
       let z : at ≡ at + 0 = omega arith in
       sound-as
-      (λ v next k. (take nameLength (drop at s), subst (NameIs s at (take nameLength (drop at s))) (sym (k .1)) (name-is l (k .2))))
+      (λ v next k. subst (NameIs s at (take nameLength (drop at s))) (sym (k .1)) (name-is l (k .2)))
       (λ number place k. subst (λ (n : ℕ). NameRefused s at n place) (sym (k .number-is))
       (subst (λ (p : ℕ). NameRefused s at unprintable p) (sym (k .place-is)) (outside (k .i) (k .there) l (k .before) (k .outside-it))))
       (subst (λ (p : ℕ). Sound (λ v next. (v ≡ nameLength) × (next ≡ at + nameLength) × Allowed nameLength) Outside (nameBytes nameLength s p)) (sym z)
       (bytes-sound nameLength 0 refl (λ j h. absurd (omega arith)))))
 
-  pub name-got : (name : List ℕ) (next : ℕ) → NameIs s at name next → nameAt s at ≡ got nameLength next
+  name-got : (name : List ℕ) (next : ℕ) → NameIs s at name next → nameAt s at ≡ got nameLength next
   unfolding nameAt
   name-got name next h =
       let z : at ≡ at + 0 = omega arith in
       let b : nameBytes nameLength s (at + 0) ≡ got nameLength (at + nameLength) = bytes-got nameLength 0 refl (λ j l. h .bytes j l .1) in
       rw (le-ltb (length s) (at + nameLength) (h .stands), h .after) (ap (λ (p : ℕ). nameBytes nameLength s p) z ∙ b)
 
-  pub name-refused : (number place : ℕ) → NameRefused s at number place → nameAt s at ≡ refused number place
+  name-refused : (number place : ℕ) → NameRefused s at number place → nameAt s at ≡ refused number place
   unfolding nameAt
   name-refused _ _ (cut-off l) = rw (lt-ltb (length s) (at + nameLength) l)
   name-refused _ _ (outside i l h k n) =
@@ -140,73 +138,59 @@ module _ (s : List ℕ) (at : ℕ) where
       let b : nameBytes nameLength s (at + 0) ≡ refused unprintable (at + i) = bytes-refused nameLength 0 i refl (omega arith) l k n in
       rw (le-ltb (length s) (at + nameLength) h) (ap (λ (p : ℕ). nameBytes nameLength s p) z ∙ b)
 
--- ---- names, one after another
--- m more names are right
-record Names (s : List ℕ) (n m : ℕ) (before : List (List ℕ)) (at next : ℕ) : Type 0 where
-  rest : List (List ℕ)
-  long : length rest ≡ m
-  records : RecordsAre (FactIs s) n before at rest next
+  -- the bytes that a name has are those that stand there
+  name-one : (name : List ℕ) (next : ℕ) → NameIs s at name next → name ≡ take nameLength (drop at s)
+  name-one name next h =
+      let long : length (take nameLength (drop at s)) ≡ nameLength = simp (length-take, length-drop) (omega (arith, h .stands)) in
+      ext-getD 0 name (take nameLength (drop at s)) (h .long ∙ sym long) (λ i l.
+      let k : i < nameLength = omega (arith, l, h .long) in
+      h .bytes i k .0 ∙ sym (getD-take nameLength (drop at s) i 0 k ∙ getD-drop at s i 0))
 
--- some of them are, and the one after them is refused
-record NamesStop (s : List ℕ) (n m : ℕ) (before : List (List ℕ)) (at number place : ℕ) : Type 0 where
-  done : List (List ℕ)
-  mid : ℕ
-  fewer : length done < m
-  records : RecordsAre (FactIs s) n before at done mid
-  stop : NameRefused s mid number place
+-- ---- the section: its names are records, and what is got is their number
+-- the name that stands there
+abbrev named : List ℕ → ℕ → Reading (List ℕ)
+named s at = andThen (nameAt s at) (λ v next. got (take nameLength (drop at s)) next)
 
-module _ (s : List ℕ) (n k : ℕ) where
-  names-sound : (m : ℕ) (before : List (List ℕ)) (at : ℕ)
-      → Sound (λ v next. (v ≡ k) × Names s n m before at next) (NamesStop s n m before at) (namesFrom m k s at)
-  unfolding namesFrom
-  names-sound zero before at = sound-got k at (refl, record { rest = []; long = refl; records = none })
-  names-sound (suc m) before at =
-      then-sound (nameAt s at) (λ name next. namesFrom m k s next) (name-sound s at)
-      (λ number place h. record { done = []; mid = at; fewer = omega arith; records = none; stop = h })
-      (λ v mid i. sound-as
-      (λ w next h. (h .0, record { rest = i .0 ∷ h .1 .rest; long = ap suc (h .1 .long); records = one-more (i .1) (h .1 .records) }))
-      (λ number place h. record { done = i .0 ∷ h .done; mid = h .mid; fewer = omega (arith, h .fewer); records = one-more (i .1) (h .records); stop = h .stop })
-      (names-sound m (before ++ (i .0 ∷ [])) mid))
+name-reads : (s : List ℕ) (at : ℕ) → ReadsAs (NameIs s at) (NameRefused s at) (named s at)
+name-reads s at =
+    record {
+      sound = then-sound (nameAt s at) _ (name-sound s at) (λ number place h. h) (λ v next h. sound-got (take nameLength (drop at s)) next h);
+      is-got = λ name next h. rw (name-got s at name next h, name-one s at name next h);
+      is-refused = λ number place h. rw (name-refused s at number place h);
+    }
 
-  names-got : {before rest : List (List ℕ)} {at next : ℕ} → RecordsAre (FactIs s) n before at rest next → namesFrom (length rest) k s at ≡ got k next
-  unfolding namesFrom
-  names-got none = refl
-  names-got (one-more {at = at} {mid = mid} {r = r} i h) = rw (name-got s at r mid i) (names-got h)
+-- as many names as are counted, those before among them
+names-records : (k : ℕ) (s : List ℕ) (m : ℕ) (before : List (List ℕ)) (at : ℕ) → length before + m ≡ k
+    → namesFrom m k s at ≡ andThen (recordsFrom (λ read p. named s p) m before at) (λ names next. got (length names) next)
+unfolding namesFrom recordsFrom
+names-records k s zero before at e = let z : k ≡ length before = omega (arith, e) in ap (λ (n : ℕ). got n at) z
+names-records k s (suc m) before at e =
+    go (nameAt s at) (λ name next.
+    names-records k s m (before ++ (name ∷ [])) next (omega (arith, e, length-append before (name ∷ []))))
+  where
+    go : (r : Reading ℕ)
+        → ((name : List ℕ) (next : ℕ) → namesFrom m k s next
+        ≡ andThen (recordsFrom (λ read p. named s p) m (before ++ (name ∷ [])) next) (λ names end. got (length names) end))
+        → andThen r (λ name next. namesFrom m k s next)
+        ≡ andThen (andThen (andThen r (λ v next. got (take nameLength (drop at s)) next))
+        (λ name next. recordsFrom (λ read p. named s p) m (before ++ (name ∷ [])) next)) (λ names next. got (length names) next)
+    go (got v next) ih = ih (take nameLength (drop at s)) next
+    go (refused number place) ih = refl
 
-  names-refused : {before done : List (List ℕ)} {at mid number place : ℕ} (m : ℕ) → length done < m → RecordsAre (FactIs s) n before at done mid
-      → NameRefused s mid number place → namesFrom m k s at ≡ refused number place
-  unfolding namesFrom
-  names-refused zero l h u = absurd (omega arith)
-  names-refused {number = number} {place = place} (suc m) l (none {at = at}) u = rw (name-refused s at number place u)
-  names-refused (suc m) l (one-more {at = at} {mid = mid} {r = r} i h) u = rw (name-got s at r mid i) (names-refused m (omega arith) h u)
+facts-as-records : (s : List ℕ) (at : ℕ) → factsAt s at
+    ≡ andThen (andThen (countAt 0 maxFacts manyFacts s at) (λ n next. recordsFrom (λ read p. named s p) n [] next)) (λ names next. got (length names) next)
+unfolding factsAt
+facts-as-records s at = go (countAt 0 maxFacts manyFacts s at)
+  where
+    go : (r : Reading ℕ) → andThen r (λ n next. namesFrom n n s next)
+        ≡ andThen (andThen r (λ n next. recordsFrom (λ read p. named s p) n [] next)) (λ names next. got (length names) next)
+    go (got n next) = let e : length {A = List ℕ} [] + n ≡ n = omega arith in names-records n s n [] next e
+    go (refused number place) = refl
 
--- ---- the section: what is got is the number of names
 pub facts-reads : (s : List ℕ) (at : ℕ)
     → ReadsAs (λ v next. (names : List (List ℕ)) × (v ≡ length names) × FactsAre s at names next) (SectionRefused factCount (FactIs s) (FactRefused s) s at) (factsAt s at)
-unfolding factsAt
 facts-reads s at =
-    let c = facts-count-reads s at in
-    record {
-      sound = then-sound (countAt 0 maxFacts manyFacts s at) (λ n next. namesFrom n n s next) (c .sound) (λ number place h. by-count h)
-          (λ n first i. sound-as
-          (λ v next h. (h .1 .rest, h .0 ∙ sym (h .1 .long), right n first i (h .1 .rest) next (h .1 .long) (h .1 .records)))
-          (λ number place h. by-record i (h .fewer) (h .records) (h .stop))
-          (names-sound s n n n [] first));
-      is-got = λ v next h. rw (c .is-got (length (h .0)) (h .2 .first) (h .2 .counted), h .1) (names-got s (length (h .0)) (length (h .0)) (h .2 .records));
-      is-refused = λ number place h. stops number place h;
-    }
-  where
-    right : (n first : ℕ) → FieldIs factCount s at n first → (names : List (List ℕ)) (next : ℕ) → length names ≡ n
-        → RecordsAre (FactIs s) n [] first names next → FactsAre s at names next
-    right n first i names next e k =
-        record {
-          first = first;
-          counted = subst (λ (m : ℕ). FieldIs factCount s at m first) (sym e) i;
-          records = subst (λ (m : ℕ). RecordsAre (FactIs s) m [] first names next) (sym e) k;
-        }
-
-    stops : (number place : ℕ) → SectionRefused factCount (FactIs s) (FactRefused s) s at number place
-        → andThen (countAt 0 maxFacts manyFacts s at) (λ n next. namesFrom n n s next) ≡ refused number place
-    stops number place (by-count h) = rw (facts-count-reads s at .is-refused number place h)
-    stops number place (by-record {n = n} {first = first} i l k h) =
-        rw (facts-count-reads s at .is-got n first i) (names-refused s n n n l k h)
+    rw (facts-as-records s at)
+    (value-reads length
+    (section-reads factCount (FactIs s) (FactRefused s) s at (countAt 0 maxFacts manyFacts s at) (λ n read p. named s p) (facts-count-reads s at)
+    (λ n before p. name-reads s p)))

@@ -1,5 +1,5 @@
 -- A reading that is sound: what it gets is what the bytes are, and what refuses it refuses them. Shown field by field, as it is made.
-use mathlib.Core.Path.{_≡_, refl, sym, subst}
+use mathlib.Core.Path.{_≡_, refl, sym}
 use mathlib.Core.Bool.{Bool, true, false}
 use Prim.Native.Nat.{ℕ}
 use native.Mathlib.Omega.{arith}
@@ -58,3 +58,13 @@ pub record ReadsAs {A : Type 0} (Is : A → ℕ → Type 0) (Refused : ℕ → �
   pub sound : Sound Is Refused r
   pub is-got : (v : A) (next : ℕ) → Is v next → r ≡ got v next
   pub is-refused : (number place : ℕ) → Refused number place → r ≡ refused number place
+
+-- what is made of the value that is got
+pub value-reads : {A B : Type 0} {Is : A → ℕ → Type 0} {Refused : ℕ → ℕ → Type 0} {r : Reading A} (f : A → B) → ReadsAs Is Refused r
+    → ReadsAs (λ v next. (a : A) × (v ≡ f a) × Is a next) Refused (andThen r (λ a next. got (f a) next))
+value-reads {r = r} f h =
+    record {
+      sound = then-sound r (λ a next. got (f a) next) (h .sound) (λ number place x. x) (λ a next i. sound-got (f a) next (a, refl, i));
+      is-got = λ v next x. rw (h .is-got (x .0) next (x .2), x .1);
+      is-refused = λ number place x. rw (h .is-refused number place x);
+    }

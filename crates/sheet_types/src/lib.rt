@@ -4,7 +4,6 @@ ghost use mathlib.Core.Path.{_≡_};
 ghost use Prim.Native.Nat.{_≤_, _<_};
 ghost use lib.ListN.{length};
 ghost use lib.Bits.{bitOr};
-ghost use Rattle.moves.specs.Orders.{configurationBefore};
 ghost use Rattle.packing.specs.Packing.{standsFor, PackedIn};
 ghost use Rattle.sheet_types.specs.HeldSheet.{configuration};
 ghost use Rattle.sheet_types.specs.AddedStore.{AddedTo};
@@ -41,16 +40,6 @@ impl Configuration {
         let sum = b | self.store;
         self.store = closure_table::closure_at(table, sum);
         self
-    }
-
-    // Whether it stands before the other in the order of configurations.
-    pub fn before(self, other: Configuration) -> bool
-        requires { ⌜ (self .count ≤ 8) × (other .count ≤ 8) ⌝ }
-        ensures { λ r. ⌜ r ≡ configurationBefore (configuration self) (configuration other) ⌝ }
-    {
-        let x = self.numbers();
-        let y = other.numbers();
-        x.compare(y) == 0
     }
 }
 

@@ -7,8 +7,8 @@ use Prim.Native.Nat.{ℕ, zero, suc, _+_, _^_, _≤_, _<_}
 use native.Mathlib.Omega.{arith}
 use lib.Dec.{eqb}
 use lib.Bits.{bitOr, or-add-and, or-lt, or-comm}
-use borrow.Author.Tests.{eqb-true, eqb-false, eq-eqb, ne-eqb}
-use Rattle.list_laws.specs.TestLaws.{and-left, and-right, and-intro, not-back, not-passes}
+use borrow.Author.Tests.{eqb-true, eqb-false, eq-eqb, ne-eqb, not-true}
+use Rattle.list_laws.specs.TestLaws.{and-left, and-right, and-intro, not-passes}
 use Rattle.stores.specs.FactSets.{Within}
 use Rattle.store_laws.specs.FactSetLaws.{within-and, and-within, within-refl, within-trans, within-antisym, within-or-left, within-or-right, or-least, within-le, empty-within, within-empty}
 use Rattle.stores.specs.Stores.{Rule, Obeys, Closed, Smallest, Constraint, fire, pass, passes, conclusions, closure, join, includes, strictlyBelow, leastStore}
@@ -22,7 +22,7 @@ within-includes h = eq-eqb _ _ (within-and h)
 
 pub below-within : (a b : ℕ) → strictlyBelow a b ≡ true → Within a b × (a ≡ b → ⊥)
 below-within a b h =
-    (includes-within b a (and-left (includes b a) (not (eqb a b)) h), eqb-false a b (not-back (eqb a b) (and-right (includes b a) (not (eqb a b)) h)))
+    (includes-within b a (and-left (includes b a) (not (eqb a b)) h), eqb-false a b (not-true (eqb a b) (and-right (includes b a) (not (eqb a b)) h)))
 
 pub within-below : {a b : ℕ} → Within a b → (a ≡ b → ⊥) → strictlyBelow a b ≡ true
 within-below {a} {b} h k = and-intro (within-includes h) (not-passes (ne-eqb a b k))

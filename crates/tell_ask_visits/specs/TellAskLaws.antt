@@ -1,10 +1,9 @@
 -- Why visiting a tell and an ask is right: what is noted are the moves that the node gives on every sheet with this table, their
 -- targets fit, and an ask whose threads are too many gives a move to a member with too many threads.
 use mathlib.Core.Path.{_≡_, refl, sym, ap, ap₂, _∙_, subst}
-use mathlib.Core.Logic.{inl, inr, ⊎-elim}
 use mathlib.Core.Bool.{Bool, true, false, not}
-use mathlib.Core.List.{List, [], _∷_, _++_, map, map-append, List·Memᴰ, List·Memᴰ·head, List·Memᴰ·tail, List·Memᴰ·not-nil, List·Memᴰ·eq-of-singleton, Memᴰ·append-left}
-use Prim.Native.Nat.{ℕ, zero, suc, _+_, _%_, _^_, _≤_, _<_}
+use mathlib.Core.List.{List, [], _∷_, _++_, map, List·Memᴰ, List·Memᴰ·head, List·Memᴰ·tail, List·Memᴰ·eq-of-singleton}
+use Prim.Native.Nat.{ℕ, _+_, _%_, _^_, _≤_, _<_}
 use native.Mathlib.Omega.{arith}
 use lib.Pow.{pow-pos}
 use lib.ListN.{length, getD, take, length-take, length-map}
@@ -12,11 +11,11 @@ use lib.Bits.{bitOr, or-lt}
 use borrow.Author.Tests.{leb-true, leb-false}
 use Rattle.lists.specs.Lists.{NotFalling, sortUp}
 use Rattle.list_laws.specs.AscendingLaws.{sortUp-same}
-use Rattle.list_laws.specs.Frames.{outside-same, SameOutside}
+use Rattle.list_laws.specs.Frames.{outside-same}
 use Rattle.list_laws.specs.Members.{mem-map, map-mem}
 use Rattle.stores.specs.Stores.{conclusions, closure, join}
 use Rattle.store_laws.specs.StoreLaws.{closure-lt, join-right}
-use Rattle.sheets.specs.Sheet.{Node, tell, ask, Configuration, Sheet, nodeOf, opened}
+use Rattle.sheets.specs.Sheet.{Node, tell, ask, Sheet, nodeOf, opened}
 use Rattle.sheets.specs.WellFormed as well-formed
 use Rattle.sheet_laws.specs.Ranks.{Ranked}
 use Rattle.moves.specs.Orders.{Move}
@@ -28,48 +27,26 @@ use Rattle.node_moves.specs.NodeMoveLaws.{moves-of-tell, moves-of-ask}
 use Rattle.node_moves.specs.ThreadLaws.{sort-append-length, insert-all-sorts}
 use Rattle.closure_table.specs.ClosureTable.{closure-at}
 use Rattle.number_lists.specs.NumberLists.{numbersIn}
-use Rattle.number_lists.specs.NumberLaws.{numbers-none, numbers-next, numbers-split, numbers-at}
-use Rattle.packing.specs.declared.Numbers.{Numbers}
-use Rattle.packing.specs.Packing.{standsFor}
-use Rattle.nodes_to_visit.specs.declared.NodeBeside as held
-use Rattle.nodes_to_visit.specs.declared.Beside.{Beside}
-use Rattle.nodes_to_visit.specs.NodesToVisit.{nodeBeside, PutBeside}
+use Rattle.number_lists.specs.NumberLaws.{numbers-at}
+use Rattle.threads_beside.specs.declared.NodeBeside as held
+use Rattle.threads_beside.specs.declared.Beside.{Beside}
+use Rattle.threads_beside.specs.ThreadsBeside.{nodeBeside, PutBeside}
 use Rattle.ask_labels.specs.declared.Labelled.{Labelled}
 use Rattle.label_search.specs.AskLabels.{LabelsAre, part}
 use Rattle.ask_labels.specs.LabelShelf.{ShelfRoom, LabelsGiven}
 use Rattle.ask_labels.specs.LabelShelfLaws.{sets-few}
-use Rattle.collected_moves.specs.declared.Caps.{Caps}
 use Rattle.collected_moves.specs.declared.Running.{Running}
-use Rattle.collected_moves.specs.declared.Noted.{Noted}
-use Rattle.collected_moves.specs.declared.Noted.the-variants.{On, Over}
-use Rattle.collected_moves.specs.CollectedMoves.{Collecting, NotedOn, NoRoom, NotedAs}
+use Rattle.collected_moves.specs.CollectedMoves.{Collecting, NotedOn, NoRoom}
 use Rattle.set_growth.specs.SetGrowth.{Growth}
 use Rattle.set_growth.specs.SetGrowthLaws.{move-threads-pass}
 use Rattle.walk_state.specs.declared.Basis.{Basis}
 use Rattle.walk_state.specs.declared.Walk.{Walk}
 use Rattle.walk_state.specs.WalkState.{NodesOf, MemberFits, VisitFits, Walking, OnSheet, TurnOn, TurnOver}
 use Rattle.walk_state.specs.PushedInWalk.{threads-joined}
-use Rattle.walk_state.specs.NotedInWalk.{NotedAll, AllPass, noted-next, noted-one, noted-none, pass-next, pass-one, noted-turn, noted-over, walkOn, reshelved, shelf-walking, shelf-turn, shelf-turn-over}
-use Rattle.tell_ask_visits.specs.TellAskMoves.{tellMove, labelMove, labelMoves, LabelsStand}
-use Rattle.work_layout.specs.WorkLayout.{workEnd, movesAt, headsAt, listsEnd}
-
--- ---- a move by what its numbers stand for
--- with this label, to the configuration that the numbers stand for, which has this store and these threads
-pub noted-named : (v : List ℕ) (first : ℕ) (s : Running) (l : Caps) (w : List ℕ) (r : Noted) (a k : ℕ) (x : Numbers) (z y : ℕ) (ts : List ℕ)
-    → a ≡ k → standsFor x ≡ record { store = z; threads = ts } → z ≡ y
-    → NotedAs v first s l (record { label = a; target = standsFor x }) w r
-    → NotedAs v first s l (record { label = k; target = record { store = y; threads = ts } }) w r
-noted-named v first s l w r a k x z y ts d e f h =
-    subst (λ (m : Move). NotedAs v first s l m w r)
-    (ap₂ (λ (n : ℕ) (p : Configuration). record { label = n; target = p }) d (e ∙ ap (λ (n : ℕ). record { store = n; threads = ts }) f)) h
-
-module _ {v : List ℕ} {first : ℕ} {s : Running} {l : Caps} {w : List ℕ} {r : Noted} where
-  -- the answer taken apart
-  pub noted-on : {m : Move} {t : Running} → r ≡ On t → NotedAs v first s l m w r → NotedOn v first s l m w t
-  noted-on {m} e h = subst (NotedAs v first s l m w) e h
-
-  pub noted-full : {m : Move} → r ≡ Over → NotedAs v first s l m w r → NoRoom v first s l m w
-  noted-full {m} e h = subst (NotedAs v first s l m w) e h
+use Rattle.walk_state.specs.NotedInWalk.{NotedAll, AllPass, noted-one, pass-one, noted-turn, noted-over, walkOn, reshelved, shelf-walking, shelf-turn, shelf-turn-over}
+use Rattle.label_moves.specs.LabelMoves.{labelMove, labelMoves, LabelsStand}
+use Rattle.tell_ask_visits.specs.TellAskMoves.{tellMove}
+use Rattle.work_layout.specs.WorkLayout.{workEnd, movesAt}
 
 -- ---- the table
 -- an entry of the table is a set of the facts
@@ -95,66 +72,6 @@ label-small {facts} {d} {c} {w} {found} h k a m =
     let t = h .table in
     let sheet : Sheet = record { facts = facts; rules = t .rules; nodes = []; starts = [] } in
     label-constraint sheet d c (subst (List·Memᴰ a) (k .are sheet refl (t .closures) (t .fit)) m) .facts
-
--- ---- labels one after another
-module _ (w : List ℕ) (d : ℕ) (ts : List ℕ) (from : ℕ) where
-  labels-none : labelMoves w d ts from from ≡ []
-  unfolding numbersIn
-  labels-none = ap (map (labelMove w d ts)) (numbers-none w from)
-
-  -- no label was passed yet
-  pub labels-begin : {first : ℕ} {s : Running} {l : Caps} → Collecting w first s l → NotedAll w first s l (labelMoves w d ts from from) w s
-  labels-begin {first} {s} {l} c = subst (λ (ms : List Move). NotedAll w first s l ms w s) (sym labels-none) (noted-none c)
-
-  labels-next : (i : ℕ) → from ≤ i → i < length w
-      → labelMoves w d ts from (i + 1) ≡ labelMoves w d ts from i ++ (labelMove w d ts (getD w i 0) ∷ [])
-  unfolding numbersIn
-  labels-next i h l =
-      ap (map (labelMove w d ts)) (numbers-next w from i h l) ∙ map-append (labelMove w d ts) (part w from i) (getD w i 0 ∷ [])
-
-  labels-among : (i end : ℕ) → from ≤ i → i ≤ end → (m : Move) → List·Memᴰ m (labelMoves w d ts from i)
-      → List·Memᴰ m (labelMoves w d ts from end)
-  unfolding numbersIn
-  labels-among i end h l m k =
-      subst (List·Memᴰ m)
-      (sym (ap (map (labelMove w d ts)) (numbers-split w from i end h l) ∙ map-append (labelMove w d ts) (part w from i) (part w i end)))
-      (Memᴰ·append-left (labelMoves w d ts i end) k)
-
-module _ (v : List ℕ) (first : ℕ) (s : Running) (l : Caps) (facts d : ℕ) (ts : List ℕ) (from end : ℕ) (long : listsEnd ≤ length v)
-    (h : LabelsStand v facts d from end) (i : ℕ) (p : from ≤ i) (q : i < end) (u : List ℕ) (r : Running)
-    (n : NotedAll v first s l (labelMoves v d ts from i) u r) (a : ℕ) (read : a ≡ getD u i 0 % 65536) where
-  -- the label read is the one that stands there
-  label-read : a ≡ getD v i 0
-  label-read =
-      omega (arith, n .inside .at i (inr (omega (arith, h .low))), h .small i p q, sets-few facts (h .few))
-
-  label-lt : a < 2 ^ facts
-  label-lt = omega (arith, label-read, h .small i p q)
-
-  -- its place in the table is inside the slice
-  pub label-place : bitOr d a < length u
-  label-place = omega (arith, or-lt facts d a (h .store) label-lt, sets-few facts (h .few), n .inside .long)
-
-  same-move : labelMove u d ts a ≡ labelMove v d ts (getD v i 0)
-  same-move =
-      ap (λ (x : ℕ). record { label = a; target = record { store = x % 65536; threads = ts } })
-      (n .inside .at (bitOr d a) (inl (omega (arith, or-lt facts d a (h .store) label-lt, sets-few facts (h .few)))))
-      ∙ ap (labelMove v d ts) label-read
-
-  -- one label more
-  pub label-noted : {w : List ℕ} {t : Running} → NotedOn u first r l (labelMove u d ts a) w t
-      → NotedAll v first s l (labelMoves v d ts from (i + 1)) w t
-  label-noted {w} {t} k =
-      subst (λ (ms : List Move). NotedAll v first s l ms w t) (sym (labels-next v d ts from i p (omega (arith, h .high))))
-      (noted-next n (subst (λ (m : Move). NotedOn u first r l m w t) same-move k))
-
-  -- no room for it
-  pub label-passes : {w : List ℕ} → NoRoom u first r l (labelMove u d ts a) w → AllPass v first s l (labelMoves v d ts from end) w
-  label-passes {w} k =
-      pass-next n (labelMoves v d ts from end)
-      (λ m j. labels-among v d ts from (i + 1) end (omega arith) (omega arith) m
-      (subst (List·Memᴰ m) (sym (labels-next v d ts from i p (omega (arith, h .high)))) j))
-      (subst (λ (m : Move). NoRoom u first r l m w) same-move k)
 
 -- ---- on a sheet with this table
 module _ {rank : ℕ → ℕ} {b : Basis} {v : List ℕ} {s : Walk} (k : Walking rank v b s) {e : NodeBeside} (fit : VisitFits b e) {nodes : List Node}
@@ -271,11 +188,6 @@ eight-places ts h = sym (length-map ts (λ (t : ℕ). t)) ∙ h
 -- so many threads as it counts
 pub counted : (ts : List ℕ) (n : ℕ) → length ts ≡ 8 → n ≤ 8 → length (take n ts) ≡ n
 counted ts n h l = simp length-take (omega arith)
-
--- they are as many as allowed where a test that they are not fails
-pub not-refused : (b : Bool) → not b ≡ false → b ≡ true
-not-refused true h = refl
-not-refused false h = sym h
 
 module _ {threads : List ℕ} {e : held.NodeBeside} {limit : ℕ} {r : Beside} (h : PutBeside threads e limit r)
     (o : List ℕ) (q : threads ≡ o) where

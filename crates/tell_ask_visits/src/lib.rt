@@ -1,23 +1,18 @@
 // Nodes that move by themselves: a tell and an ask, with threads beside them. What they give is noted.
-use collected_moves::Caps;
 use collected_moves::Noted;
-use collected_moves::Running;
-use nodes_to_visit::NodeBeside;
+use label_moves::note_labels;
 use sheet_types::Configuration;
+use threads_beside::NodeBeside;
 use walk_state::Basis;
 use walk_state::Walk;
 use walk_state::Walked;
-ghost use mathlib.Core.Path.{_≡_};
 ghost use Prim.Native.Nat.{_≤_, _<_, _^_};
-ghost use lib.ListN.{length, getD};
-ghost use lib.Bits.{bitOr};
-ghost use Rattle.sheets.specs.Sheet.{tell, ask};
+ghost use lib.ListN.{getD};
+ghost use Rattle.sheets.specs.Sheet.{tell};
 ghost use Rattle.sheet_laws.specs.Ranks.{rankOf};
-ghost use Rattle.nodes_to_visit.specs.NodesToVisit.{nodeBeside};
-ghost use Rattle.collected_moves.specs.CollectedMoves.{Collecting, NotedAs};
+ghost use Rattle.threads_beside.specs.ThreadsBeside.{nodeBeside};
 ghost use Rattle.walk_state.specs.WalkState.{VisitFits, Walking, TurnedAs};
-ghost use Rattle.walk_state.specs.NotedInWalk.{NotedAllAs};
-ghost use Rattle.tell_ask_visits.specs.TellAskMoves.{labelMove, labelMoves, LabelsStand, AskTurned};
+ghost use Rattle.tell_ask_visits.specs.TellAskMoves.{AskTurned};
 
 // A tell of c: the thread is gone, the store joined with c.
 pub fn visit_tell(work: &mut [u32], c: u16, b: Basis, e: NodeBeside, s: Walk) -> Walked
@@ -47,51 +42,6 @@ pub fn visit_tell(work: &mut [u32], c: u16, b: Basis, e: NodeBeside, s: Walk) ->
     })
 }
 
-// The move with label a to the threads of e, at the store joined with a.
-fn note_label(work: &mut [u32], a: u16, b: Basis, e: NodeBeside, s: Running) -> Noted
-    requires { ⌜ Collecting (now work) (b .first) s (b .caps) × (e .count ≤ 8) × (bitOr (b .store) a < length (now work)) ⌝ }
-    ensures { λ r. ⌜ NotedAs (now (work .entry)) (b .first) s (b .caps) (labelMove (now (work .entry)) (b .store) (nodeBeside e .threads) a)
-        (now (work .exit)) r ⌝ }
-{
-    let sum = b.store | a;
-    let store = closure_table::closure_at(work, sum);
-    let threads = e.threads;
-    let target = Configuration {
-        store,
-        count: e.count,
-        threads,
-    };
-    let x = target.numbers();
-    move_entry::note(work, b.first, s, b.caps, a, x)
-}
-
-// The moves with the labels that stand from `from` on, before `end`.
-fn note_labels(
-    work: &mut [u32],
-    from: usize,
-    end: usize,
-    b: Basis,
-    e: NodeBeside,
-    s: Running,
-) -> Noted
-    requires { ⌜ Collecting (now work) (b .first) s (b .caps) × (e .count ≤ 8) × LabelsStand (now work) (b .facts) (b .store) from end ⌝ }
-    ensures { λ r. ⌜ NotedAllAs (now (work .entry)) (b .first) s (b .caps)
-        (labelMoves (now (work .entry)) (b .store) (nodeBeside e .threads) from end) (now (work .exit)) r ⌝ }
-{
-    let mut run = s;
-    let mut i = from;
-    while i < end {
-        let a = (work[i] % 65536) as u16;
-        let r = note_label(work, a, b, e, run);
-        let Noted::On(next) = r else {
-            return Noted::Over;
-        };
-        run = next;
-        i += 1;
-    }
-    Noted::On(run)
-}
-
 // An ask of c, then node q: a move for each label.
 pub fn visit_ask(
     work: &mut [u32],
@@ -108,7 +58,7 @@ pub fn visit_ask(
     ensures { λ r. ⌜ AskTurned rankOf (now (counts .entry)) (now (threads .entry)) c q b (now (work .entry)) s (nodeBeside e) (now (work .exit)) r ⌝ }
 {
     let l = b.caps;
-    let joined = nodes_to_visit::put_beside(counts, threads, e, q, l.threads);
+    let joined = threads_beside::put_beside(counts, threads, e, q, l.threads);
     if !joined.fits {
         return Walked::Over;
     }

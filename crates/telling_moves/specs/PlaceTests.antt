@@ -2,7 +2,7 @@
 use mathlib.Core.Path.{_≡_, refl, sym, ap, _∙_, subst}
 use mathlib.Core.Bool.{Bool, true, false, cond, _||_}
 use mathlib.Core.List.{List, [], _∷_}
-use Prim.Native.Nat.{ℕ, zero, suc, _+_, _≤_, _<_}
+use Prim.Native.Nat.{ℕ, zero, suc, _+_, _<_}
 use native.Mathlib.Omega.{arith}
 use native.Mathlib.Numerals.{add-one}
 use lib.ListN.{length, getD}
@@ -12,6 +12,7 @@ use Rattle.list_laws.specs.TestLaws.{true-false, or-left, or-right, or-fails, T
 use Rattle.lists.specs.Lists.{any, select}
 use Rattle.list_laws.specs.Members.{any-mem}
 use Rattle.list_laws.specs.ListPlaces.{getD-in, any-nowhere}
+use Rattle.list_laws.specs.PlacesPassed.{HoldsFrom, FirstPlace}
 
 -- some place below the count passes
 unfoldable pub someBelow : (ℕ → Bool) → ℕ → Bool
@@ -65,21 +66,12 @@ any-places test xs d f n e h = go (tested (someBelow f n))
         any-nowhere test xs d (λ j l. let k : j < n = omega (arith, e) in h j k ∙ some-no f n j y k) ∙ sym y
 
 -- r is the first place below n that passes, n where none does
-pub record First (f : ℕ → Bool) (n r : ℕ) : Type 0 where
-  pub at-most : r ≤ n
-  pub before : (j : ℕ) → j < r → f j ≡ false
-  pub here : r < n → f r ≡ true
+abbrev pub First : (ℕ → Bool) → ℕ → ℕ → Type 0
+First f n r = FirstPlace (λ j. f j ≡ false) (λ j. f j ≡ true) 0 n r
 
 -- no place before j passes
 abbrev pub NoneBefore : (ℕ → Bool) → ℕ → Type 0
-NoneBefore f j = (k : ℕ) → k < j → f k ≡ false
-
-pub none-next : (f : ℕ → Bool) (j : ℕ) → NoneBefore f j → f j ≡ false → NoneBefore f (j + 1)
-none-next f j h e k l = go (tested (eqb k j))
-  where
-    go : Tested (eqb k j) → f k ≡ false
-    go (passes y) = subst (λ (v : ℕ). f v ≡ false) (sym (eqb-true k j y)) e
-    go (fails y) = h k (omega (arith, eqb-false k j y))
+NoneBefore f j = HoldsFrom (λ k. f k ≡ false) 0 j
 
 module _ {A : Type 0} (test : A → Bool) where
   -- no element passes

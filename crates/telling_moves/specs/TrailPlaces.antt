@@ -270,7 +270,7 @@ module _ {sheet : Sheet} {set : List Configuration} {w : List ℕ} {n m last : �
         select-none (untold k p q) (moves sheet (memberAt w p)) (moveFrom w 0)
         (λ j l.
         let b : j < moveTotal w p = omega (arith, moves-count sheet set w n m (T .held) p lp) in
-        tells-places j (moveFrom w 0) b ∙ F .before j b)
+        tells-places j (moveFrom w 0) b ∙ F .passed j (omega arith) b)
 
     -- the first move that tells is the first one without an answer
     pub untold-first : (j : ℕ) → First (tellsAt w n last k (firstMove w p) q) (moveTotal w p) j → j < moveTotal w p
@@ -278,6 +278,6 @@ module _ {sheet : Sheet} {set : List Configuration} {w : List ℕ} {n m last : �
     untold-first j F l =
         let c : length (moves sheet (memberAt w p)) ≡ moveTotal w p = moves-count sheet set w n m (T .held) p lp in
         let x = select-first (untold k p q) (moves sheet (memberAt w p)) (moveFrom w 0) j (omega arith)
-        (λ a la. tells-places a (moveFrom w 0) (omega arith) ∙ F .before a la)
+        (λ a la. tells-places a (moveFrom w 0) (omega arith) ∙ F .passed a (omega arith) la)
         (tells-places j (moveFrom w 0) l ∙ F .here l) in
         (x .0, x .1 ∙ ap (λ (a : Move). a ∷ x .0) (move-number k p h lp j (moveFrom w 0) l))

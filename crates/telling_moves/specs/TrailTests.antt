@@ -7,12 +7,13 @@ use native.Mathlib.Omega.{arith}
 use lib.ListN.{length, getD}
 use lib.Dec.{ltb}
 use borrow.Author.Tests.{eq-eqb, ne-eqb}
+use Rattle.list_laws.specs.PlacesPassed.{holds-none, holds-next}
 use Rattle.work_layout.specs.SetLayout.{firstMove, moveTotal, moveNumbersAt}
 use Rattle.kept_classes.specs.RoundLayout.{number-in}
 use Rattle.dominators.specs.FoundMembers.{LiftedAt}
 use Rattle.dominators.specs.DominatorSearch.{comesBelow}
 use Rattle.separations.specs.ApartClasses.{Falls}
-use Rattle.telling_moves.specs.PlaceTests.{someBelow, some-none, some-next, some-hit, First, NoneBefore, none-next}
+use Rattle.telling_moves.specs.PlaceTests.{someBelow, some-none, some-next, some-hit, First, NoneBefore}
 use Rattle.telling_moves.specs.TrailLayout.{apartAt, Followable, MovesOfOne, MoveOfOne, PairFits}
 use Rattle.telling_moves.specs.TrailPlaces.{moveNumber, liftedPlace, dominatesAt, redundantAt, answersAt, answeredAt, tellsAt, lifted-found-at, lifted-place-is}
 use Rattle.work_layout.specs.WorkLayout.{workEnd, movesAt}
@@ -199,7 +200,7 @@ module _ (w : List ℕ) (n last r p q : ℕ) where
   NoneTells j = (j ≤ moveTotal w p) × NoneBefore (tellsAt w n last r (firstMove w p) q) j
 
   pub none-tells-first : NoneTells 0
-  none-tells-first = (omega arith, λ k l. absurd (omega arith))
+  none-tells-first = (omega arith, holds-none (λ j. tellsAt w n last r (firstMove w p) q j ≡ false) 0)
 
   module _ (first total : ℕ) (ef : first ≡ firstMove w p) (et : total ≡ moveTotal w p) where
     told : (j : ℕ) (b : Bool) → b ≡ tellsAt w n last r first q j → b ≡ tellsAt w n last r (firstMove w p) q j
@@ -207,15 +208,15 @@ module _ (w : List ℕ) (n last r p q : ℕ) where
 
     pub none-tells-next : (j : ℕ) (b : Bool) → j < total → NoneTells j → b ≡ tellsAt w n last r first q j → b ≡ false → NoneTells (j + 1)
     none-tells-next j b l N e f =
-        (omega arith, none-next (tellsAt w n last r (firstMove w p) q) j (N .1) (sym (told j b e) ∙ f))
+        (omega arith, holds-next (λ k. tellsAt w n last r (firstMove w p) q k ≡ false) 0 j (N .1) (sym (told j b e) ∙ f))
 
     pub tells-hit : (j : ℕ) (b : Bool) → j < total → NoneTells j → b ≡ tellsAt w n last r first q j → b ≡ true
         → First (tellsAt w n last r (firstMove w p) q) (moveTotal w p) j
-    tells-hit j b l N e t = record { at-most = N .0; before = N .1; here = λ _. sym (told j b e) ∙ t }
+    tells-hit j b l N e t = record { within = (omega arith, N .0); passed = N .1; here = λ _. sym (told j b e) ∙ t }
 
     pub tells-end : (j : ℕ) → NoneTells j → total ≤ j → First (tellsAt w n last r (firstMove w p) q) (moveTotal w p) total
     tells-end j N h = record {
-      at-most = omega arith;
-      before = λ k l. N .1 k (omega arith);
+      within = (omega arith, omega arith);
+      passed = λ k m l. N .1 k m (omega arith);
       here = λ l. absurd (omega arith);
     }

@@ -12,7 +12,7 @@ fn dominates_in(work: &[u32], n: usize, last: usize, x: u32, y: u32, r: usize) -
     requires { ⌜ Followable (now work) n last × MovesOfOne (now work) n x y ⌝ }
     ensures { λ b. ⌜ b ≡ dominatesAt (now (work .entry)) n last r x y ⌝ }
 {
-    if !dominators::comes_below(work, x, y) {
+    if !dominance_tests::comes_below(work, x, y) {
         return false;
     }
     let t = (y % 65536) as usize;

@@ -76,17 +76,25 @@ pub fn put_end(out: &mut [u8], at: usize) -> usize
 // What every line has room in.
 const LINE_ROOM: usize = 128;
 
-// The line of a refusal: its number and its place. A slice without room is left as it is, and the length is then 0.
-pub fn refused_line(out: &mut [u8], number: u8, place: usize) -> usize
-    ensures { λ r. ⌜ Written (line refusedWord (number ∷ place ∷ [])) (now (out .entry)) (now (out .exit)) r ⌝ }
+// The line of a word and two numbers. A slice without room is left as it is, and the length is then 0.
+pub fn two_number_line(out: &mut [u8], word: &[u8], x: u64, y: u64) -> usize
+    requires { ⌜ length (now word) ≤ 64 ⌝ }
+    ensures { λ r. ⌜ Written (line (now (word .entry)) (x ∷ y ∷ [])) (now (out .entry)) (now (out .exit)) r ⌝ }
 {
     if out.len() < LINE_ROOM {
         return 0;
     }
-    let a = put_text(out, 0, b"REFUSED");
-    let b = put_field(out, a, number as u64);
-    let c = put_field(out, b, place as u64);
+    let a = put_text(out, 0, word);
+    let b = put_field(out, a, x);
+    let c = put_field(out, b, y);
     put_end(out, c)
+}
+
+// The line of a refusal: its number and its place.
+pub fn refused_line(out: &mut [u8], number: u8, place: usize) -> usize
+    ensures { λ r. ⌜ Written (line refusedWord (number ∷ place ∷ [])) (now (out .entry)) (now (out .exit)) r ⌝ }
+{
+    two_number_line(out, b"REFUSED", number as u64, place as u64)
 }
 
 // The line of a sheet that was read: its facts, rules, nodes and starts, counted.

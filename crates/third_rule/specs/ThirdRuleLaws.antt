@@ -9,8 +9,8 @@ use native.Mathlib.Omega.{arith}
 use lib.ListN.{length, getD}
 use lib.Dec.{eqb, ltb}
 use lib.Bits.{bitAnd, bitOr, or-lt}
-use borrow.Author.Tests.{eqb-true, eqb-false, ltb-true, ltb-false}
-use Rattle.list_laws.specs.TestLaws.{true-false, or-false, not-back}
+use borrow.Author.Tests.{eqb-true, eqb-false, ltb-true, ltb-false, not-true}
+use Rattle.list_laws.specs.TestLaws.{true-false, or-false}
 use Rattle.list_laws.specs.TabulateLaws.{mem-tabulate}
 use Rattle.list_laws.specs.Members.{mem-map, map-mem}
 use Rattle.list_laws.specs.Frames.{SameOutside, outside-same, outside-again}
@@ -118,7 +118,7 @@ module _ {b : Basis} {v : List ℕ} {s : Running} (c : Standing v b s) where
       go true t f i p q e = omega (arith, eqb-true j (b .first) t)
       go false t f i p q e =
           let d : labelAt v (j - 1) ≡ labelAt v j → ⊥ =
-          eqb-false (labelAt v (j - 1)) (labelAt v j) (not-back (eqb (labelAt v (j - 1)) (labelAt v j)) f) in
+          eqb-false (labelAt v (j - 1)) (labelAt v j) (not-true (eqb (labelAt v (j - 1)) (labelAt v j)) f) in
           let last : numberAt v (j - 1) < numberAt v j = numbers-ascend (j - 1) j (omega arith) (omega arith) k in
           let up : numberAt v i ≤ numberAt v (j - 1) = rise i p q (ltb i (j - 1)) refl in
           let z : labelAt v (j - 1) ≡ labelAt v j = omega (arith, last, up, e) in

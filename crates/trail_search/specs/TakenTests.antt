@@ -18,7 +18,7 @@ module _ (w : List ℕ) (n last r p q : ℕ) where
 
   -- none before the end
   all-passed : (f : ℕ → Bool) (total j : ℕ) → First f total j → total ≤ j → First f total total
-  all-passed f total j F h = let e : j ≡ total = omega (arith, F .at-most) in subst (First f total) e F
+  all-passed f total j F h = let e : j ≡ total = omega (arith, F .within .1) in subst (λ (r : ℕ). First f total r) e F
 
   module _ (j : ℕ) (F : First (tellsAt w n last r (firstMove w p) q) (moveTotal w p) j) (h : moveTotal w p ≤ j) where
     pub takes-right : (k first : ℕ) → First (tellsAt w n last r (firstMove w q) p) (moveTotal w q) k → k < moveTotal w q

@@ -30,7 +30,8 @@ use Rattle.collected_moves.specs.CollectedMoves.{membersOf, movesOf, Collecting
 use Rattle.collected_moves.specs.CollectedLaws.{grown-refl, grown-trans, grown-same, agree-between, collecting-outside, outside-members-of, outside-moves-of}
 use Rattle.set_growth.specs.SetGrowth.{Growth, Sound, InSet, InHand, Gathered}
 use Rattle.set_growth.specs.SetGrowthLaws.{target-in-set, gathered-same, no-room-passes}
-use Rattle.nodes_to_visit.specs.NodesToVisit.{placed, pendingOne, pendingIn}
+use Rattle.threads_beside.specs.ThreadsBeside.{placed}
+use Rattle.nodes_to_visit.specs.NodesToVisit.{pendingOne, pendingIn}
 use Rattle.nodes_to_visit.specs.NodesToVisitLaws.{pending-same, pending-same-packed, weight, weight-none, weight-next, weight-append}
 use Rattle.walk_state.specs.declared.Basis.{Basis}
 use Rattle.walk_state.specs.declared.Walk.{Walk}

@@ -28,7 +28,8 @@ use Rattle.collected_moves.specs.CollectedMoves.{Grown, membersOf, movesOf}
 use Rattle.collected_moves.specs.CollectedFrames.{members-outside, moves-outside, collecting-outside, grown-outside}
 use Rattle.set_growth.specs.SetGrowth.{Growth, InHand}
 use Rattle.set_growth.specs.SetGrowthLaws.{gathered-same}
-use Rattle.nodes_to_visit.specs.NodesToVisit.{placed, PendingPacked, pendingOne, pendingIn, Pushed, PutAmong, Entered, there, put}
+use Rattle.threads_beside.specs.ThreadsBeside.{placed}
+use Rattle.nodes_to_visit.specs.NodesToVisit.{PendingPacked, pendingOne, pendingIn, Pushed, PutAmong, Entered, there, put}
 use Rattle.nodes_to_visit.specs.NodesToVisitLaws.{pushed-below, pushed-packed, weight, weight-none, weight-append, weight-next}
 use Rattle.walk_state.specs.declared.Basis.{Basis}
 use Rattle.walk_state.specs.declared.Walk.{Walk}

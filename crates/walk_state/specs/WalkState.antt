@@ -20,7 +20,8 @@ use Rattle.ask_labels.specs.LabelShelf.{ShelfRoom, Shelved}
 use Rattle.collected_moves.specs.declared.Caps.{Caps}
 use Rattle.collected_moves.specs.CollectedMoves.{Collecting, Grown, membersOf, movesOf}
 use Rattle.set_growth.specs.SetGrowth.{Growth, Sound, InHand, Gathered}
-use Rattle.nodes_to_visit.specs.NodesToVisit.{placed, PendingPacked, pendingOne, pendingIn}
+use Rattle.threads_beside.specs.ThreadsBeside.{placed}
+use Rattle.nodes_to_visit.specs.NodesToVisit.{PendingPacked, pendingOne, pendingIn}
 use Rattle.nodes_to_visit.specs.NodesToVisitLaws.{weight}
 use Rattle.walk_state.specs.declared.Basis.{Basis}
 use Rattle.walk_state.specs.declared.Walk.{Walk}

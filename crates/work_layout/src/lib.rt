@@ -1,5 +1,5 @@
 // Where everything stands in the work slice, phase by phase (specs/WorkLayout says what each part has), and the functions that
-// read one number of a part; the whole of it cleared.
+// read one number of a part; a work slice made, and one cleared.
 use packing::Numbers;
 ghost use mathlib.Core.Path.{_≡_};
 ghost use Prim.Native.Nat.{_≤_};
@@ -115,6 +115,13 @@ pub fn class_at(work: &[u32], i: usize) -> u32
     ensures { λ r. ⌜ r ≡ classIn (now (work .entry)) i ⌝ }
 {
     work[CLASSES + i]
+}
+
+// A work slice.
+pub fn work_room() -> [u32; WORK_END]
+    ensures { λ r. ⌜ 16384 ≡ length r ⌝ }
+{
+    [0; WORK_END]
 }
 
 // The first 16,384 numbers set to 0.

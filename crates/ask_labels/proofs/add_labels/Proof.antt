@@ -4,6 +4,14 @@ use borrow.Author.Needs.{needs}
 use Rattle.ask_labels.proofs.add_labels.Statement.{statement}
 use Rattle.ask_labels.proofs.add_labels.Tie as tie
 
+-- ---- the stages of the function, each from a later one
+abbrev start-of-labels-from : tie.After-labels-from → tie.Start
+start-of-labels-from s = s .before .before .before
+
+abbrev labels-from-of-put-entry : tie.After-put-entry → tie.After-labels-from
+labels-from-of-put-entry s = s .before .before .before .before
+
+-- ---- what is left to show
 add-first : tie.Need-add-first
 add-first c = search needs
 
@@ -30,10 +38,12 @@ same-length c = search needs
 
 returns : tie.Need-returns
 returns c =
-    let start = c .before .before .before .before .before .before .before .before .before in
+    let at-put-entry = c .before .before in
+    let at-labels-from = labels-from-of-put-entry at-put-entry in
+    let start = start-of-labels-from at-labels-from in
     let x = start .args in
-    let found = c .before .before .before .before .before .before .labels-from in
-    rw (c .before .before .put-entry .ensures)
+    let found = at-labels-from .labels-from in
+    rw (at-put-entry .put-entry .ensures)
     (put-answers (x .work .now) (found .last .0) (x .facts) (x .d) (x .c) (x .shelf .sets) (x .shelf .used) (found .result)
     (start .pre .0) (start .pre .2) (start .pre .3) (found .ensures .0) (found .ensures .1) (found .ensures .2) (start .pre .1))
 

@@ -9,6 +9,23 @@ use borrow.Author.Needs.{needs}
 use Rattle.ask_labels.proofs.labels_at.Statement.{statement}
 use Rattle.ask_labels.proofs.labels_at.Tie as tie
 
+-- ---- the stages of the function, each from a later one
+abbrev start-of-missing : tie.After-missing → tie.Start
+start-of-missing s = s .before .before
+
+abbrev missing-of-entry-of : tie.After-entry-of → tie.After-missing
+missing-of-entry-of s = s .before .before
+
+abbrev entry-of-of-then1 : tie.Then1 → tie.After-entry-of
+entry-of-of-then1 s = s .before
+
+abbrev then1-of-number-at : tie.After-number-at → tie.Then1
+then1-of-number-at s = s .before .before
+
+abbrev entry-of-of-add-labels : tie.After-add-labels → tie.After-entry-of
+entry-of-of-add-labels s = s .before .before .before .before
+
+-- ---- what is left to show
 missing-requires : tie.Need-missing-requires
 missing-requires c κs = search needs
 
@@ -38,12 +55,16 @@ same-length c = search needs
 
 returns : tie.Need-returns
 returns c =
-    let start = c .before .before .before .before .before .before .before .before .before in
+    let at-number-at = c .before .before in
+    let at-then1 = then1-of-number-at at-number-at in
+    let at-entry-of = entry-of-of-then1 at-then1 in
+    let at-missing = missing-of-entry-of at-entry-of in
+    let start = start-of-missing at-missing in
     let x = start .args in
-    let lacking = c .before .before .before .before .before .before .before .missing in
-    let entry = c .before .before .before .before .before .entry-of in
-    let there = c .before .before .before .before .if1 .taken in
-    rw (c .before .before .number-at .ensures, c .number-at2 .ensures)
+    let lacking = at-missing .missing in
+    let entry = at-entry-of .entry-of in
+    let there = at-then1 .if1 .taken in
+    rw (at-number-at .number-at .ensures, c .number-at2 .ensures)
     (missing-answers (x .c)
     (entry-answers (x .work .now) (x .facts) (x .d) (outside (x .d) (x .c)) (x .shelf) (entry .result) (start .pre .1) there
     (entry .ensures .1 there ∙ lacking .ensures)))
@@ -62,9 +83,12 @@ same-length-2 c = search needs
 
 returns-2 : tie.Need-returns-2
 returns-2 c =
-    let x = c .before .before .before .before .before .before .before .before .before .before .args in
-    let found = c .before .before .add-labels in
-    let lacking = c .before .before .before .before .before .before .before .before .missing in
+    let at-add-labels = c .before .before in
+    let at-missing = missing-of-entry-of (entry-of-of-add-labels at-add-labels) in
+    let at-start = start-of-missing at-missing in
+    let x = at-start .args in
+    let found = at-add-labels .add-labels in
+    let lacking = at-missing .missing in
     missing-answers (x .c)
     (subst (λ (m : ℕ). LabelsGiven (x .work .now) (x .facts) (x .d) m (found .result) (found .last .0)) (lacking .ensures) (found .ensures))
 

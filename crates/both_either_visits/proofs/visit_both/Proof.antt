@@ -1,7 +1,7 @@
 -- Each part is stored with the threads of the other beside it, or passed over where it gives no move: what is stored gives the both's moves.
 use lib.ListN.{length, take, length-take}
 use borrow.Author.Needs.{length-unmapped, needs}
-use Rattle.nodes_to_visit.specs.NodesToVisit.{nodeBeside}
+use Rattle.threads_beside.specs.ThreadsBeside.{nodeBeside}
 use Rattle.both_either_visits.specs.StoredPartLaws.{both-room, both-first-over, both-then}
 use native.Mathlib.Omega.{arith}
 use Prim.Native.Nat.{ℕ}

@@ -1,6 +1,6 @@
 -- Each node is entered with the threads that stood beside the either, and what the two give are the moves of the either.
 use native.Mathlib.Omega.{arith}
-use Rattle.nodes_to_visit.specs.NodesToVisit.{nodeBeside}
+use Rattle.threads_beside.specs.ThreadsBeside.{nodeBeside}
 use Rattle.walk_state.specs.PushedInWalk.{entered-few, entered-long, entered-packed}
 use Rattle.both_either_visits.specs.StoredPartLaws.{either-turned}
 use borrow.Author.Needs.{needs}

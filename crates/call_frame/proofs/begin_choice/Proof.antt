@@ -12,6 +12,20 @@ use Rattle.call_frame.specs.BegunLaws.{starts-are}
 use Rattle.call_frame.proofs.begin_choice.Statement.{statement}
 use Rattle.call_frame.proofs.begin_choice.Tie as tie
 
+-- ---- the stages of the function, each from a later one
+abbrev start-of-start-at : tie.After-start-at → tie.Start
+start-of-start-at s = s .before .before .before
+
+abbrev start-at-of-start-at2 : tie.After-start-at2 → tie.After-start-at
+start-at-of-start-at2 s = s .before
+
+abbrev start-at2-of-chosen-seeds : tie.After-chosen-seeds → tie.After-start-at2
+start-at2-of-chosen-seeds s = s .before
+
+abbrev chosen-seeds-of-begin-set : tie.After-begin-set → tie.After-chosen-seeds
+chosen-seeds-of-begin-set s = s .before .before
+
+-- ---- what is left to show
 start-at-requires : tie.Need-start-at-requires
 start-at-requires c κs =
     let choice = c .before .before .pre .1 in
@@ -49,14 +63,18 @@ same-length c = search needs
 
 returns : tie.Need-returns
 returns c =
-    let start = c .before .before .before .before .before .before .before .before .before in
+    let at-begin-set = c .before .before in
+    let at-chosen-seeds = chosen-seeds-of-begin-set at-begin-set in
+    let at-start-at2 = start-at2-of-chosen-seeds at-chosen-seeds in
+    let at-start-at = start-at-of-start-at2 at-start-at2 in
+    let start = start-of-start-at at-start-at in
     let args = start .args in
     let choice = start .pre .1 in
-    let seeds = c .before .before .before .before .chosen-seeds in
+    let seeds = at-chosen-seeds .chosen-seeds in
     let are = seeds-stored (args .sheet .starts) (seeds .result) (args .left) (args .right) (omega (arith, seeds .ok)) (seeds .ensures) in
-    let begin = c .before .before .begin-set in
-    let left = c .before .before .before .before .before .before .start-at in
-    let right = c .before .before .before .before .before .start-at2 in
+    let begin = at-begin-set .begin-set in
+    let left = at-start-at .start-at in
+    let right = at-start-at2 .start-at2 in
     record {
       begun =
           subst (λ (s : List spec.Configuration). BegunAs (limitsOf (args .caps)) (sheetOf (args .sheet)) s (args .work .now) (begin .last .0) (begin .result))

@@ -10,6 +10,17 @@ use Rattle.call_frame.specs.BegunLaws.{pair-refused, pair-begun}
 use Rattle.call_frame.proofs.begin_pair.Statement.{statement}
 use Rattle.call_frame.proofs.begin_pair.Tie as tie
 
+-- ---- the stages of the function, each from a later one
+abbrev start-of-read-choice : tie.After-read-choice → tie.Start
+start-of-read-choice s = s .before .before .before
+
+abbrev read-choice-of-enum-told : tie.After-enum-told → tie.After-read-choice
+read-choice-of-enum-told s = s .before .before
+
+abbrev enum-told-of-begin-choice : tie.After-begin-choice → tie.After-enum-told
+enum-told-of-begin-choice s = s .before .before .before
+
+-- ---- what is left to show
 read-choice-requires : tie.Need-read-choice-requires
 read-choice-requires c κs = search needs
 
@@ -44,11 +55,15 @@ same-length c = search needs
 
 returns-2 : tie.Need-returns-2
 returns-2 c =
-    let args = c .before .before .before .before .before .before .before .before .before .before .args in
-    let read = c .before .before .before .before .before .before .before .read-choice in
+    let at-begin-choice = c .before .before in
+    let at-enum-told = enum-told-of-begin-choice at-begin-choice in
+    let at-read-choice = read-choice-of-enum-told at-enum-told in
+    let at-start = start-of-read-choice at-read-choice in
+    let args = at-start .args in
+    let read = at-read-choice .read-choice in
     pair-begun (limitsOf (args .caps)) (args .sheet .now) (args .left) (args .right) (args .work .now)
-    (choice-is (args .sheet .now) (args .left) (args .right) (read .result) (read .ensures) (c .before .before .before .before .before .enum-told .given .1))
-    (c .before .before .begin-choice .ensures)
+    (choice-is (args .sheet .now) (args .left) (args .right) (read .result) (read .ensures) (at-enum-told .enum-told .given .1))
+    (at-begin-choice .begin-choice .ensures)
 
 pub begin-pair-spec : {M : Type 1} → statement M
 begin-pair-spec =

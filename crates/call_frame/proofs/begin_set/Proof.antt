@@ -12,6 +12,23 @@ use Rattle.call_frame.specs.BegunLaws.{begun-large}
 use Rattle.call_frame.proofs.begin_set.Statement.{statement}
 use Rattle.call_frame.proofs.begin_set.Tie as tie
 
+-- ---- the stages of the function, each from a later one
+abbrev start-of-else1 : tie.Else1 → tie.Start
+start-of-else1 s = s .before .before
+
+abbrev else1-of-find-set : tie.After-find-set → tie.Else1
+else1-of-find-set s = s .before .before
+
+abbrev find-set-of-found : tie.After-found → tie.After-find-set
+find-set-of-found s = s .before .before .before .before
+
+abbrev find-set-of-enum-told : tie.After-enum-told → tie.After-find-set
+find-set-of-enum-told s = s .before .before .before .before
+
+abbrev enum-told-of-clear-work : tie.After-clear-work → tie.After-enum-told
+enum-told-of-clear-work s = s .before .before
+
+-- ---- what is left to show
 returns : tie.Need-returns
 returns c = too-short (c .if1 .taken) refl
 
@@ -28,42 +45,52 @@ enum-told c = search needs
 
 clear-work-requires : tie.Need-clear-work-requires
 clear-work-requires c κs =
-    let start = c .before .before .before .before .before .before .before .before .before in
+    let at-enum-told = c .before in
+    let at-find-set = find-set-of-enum-told at-enum-told in
+    let at-else1 = else1-of-find-set at-find-set in
+    let start = start-of-else1 at-else1 in
     let args = start .args in
-    let find = c .before .before .before .before .before .find-set in
+    let find = at-find-set .find-set in
     let v : List ℕ = args .work .now in
     let found : SetPasses (sheetOf (args .sheet)) (limitsOf (args .caps)) (startsIn (args .seeds) (args .k)) v (find .last .0) =
     subst (λ (r : Found). SetFound (sheetOf (args .sheet)) (limitsOf (args .caps)) (startsIn (args .seeds) (args .k)) v (find .last .0) r)
-    (c .before .enum-told .given .1) (find .ensures) in
-    omega (arith, found .outside .long, c .before .before .before .before .before .before .before .if1 .left)
+    (at-enum-told .enum-told .given .1) (find .ensures) in
+    omega (arith, found .outside .long, at-else1 .if1 .left)
 
 same-length : tie.Need-same-length
 same-length c = search needs
 
 returns-2 : tie.Need-returns-2
 returns-2 c =
-    let start = c .before .before .before .before .before .before .before .before .before .before .before .before in
+    let at-clear-work = c .before .before in
+    let at-enum-told = enum-told-of-clear-work at-clear-work in
+    let at-find-set = find-set-of-enum-told at-enum-told in
+    let at-else1 = else1-of-find-set at-find-set in
+    let start = start-of-else1 at-else1 in
     let args = start .args in
-    let find = c .before .before .before .before .before .before .before .before .find-set in
+    let find = at-find-set .find-set in
     let v : List ℕ = args .work .now in
     let found : SetPasses (sheetOf (args .sheet)) (limitsOf (args .caps)) (startsIn (args .seeds) (args .k)) v (find .last .0) =
     subst (λ (r : Found). SetFound (sheetOf (args .sheet)) (limitsOf (args .caps)) (startsIn (args .seeds) (args .k)) v (find .last .0) r)
-    (c .before .before .before .before .enum-told .given .1) (find .ensures) in
-    begun-large (omega (arith, c .before .before .before .before .before .before .before .before .before .before .if1 .left)) found (c .before .before .clear-work .ensures)
+    (at-enum-told .enum-told .given .1) (find .ensures) in
+    begun-large (omega (arith, at-else1 .if1 .left)) found (at-clear-work .clear-work .ensures)
 
 same-length-2 : tie.Need-same-length-2
 same-length-2 c = search needs
 
 returns-3 : tie.Need-returns-3
 returns-3 c =
-    let start = c .before .before .before .before .before .before .before .before .before in
+    let at-found = c .before in
+    let at-find-set = find-set-of-found at-found in
+    let at-else1 = else1-of-find-set at-find-set in
+    let start = start-of-else1 at-else1 in
     let args = start .args in
-    let find = c .before .before .before .before .before .find-set in
+    let find = at-find-set .find-set in
     let v : List ℕ = args .work .now in
     let whole : SetWhole (sheetOf (args .sheet)) (limitsOf (args .caps)) (startsIn (args .seeds) (args .k)) v (find .last .0) _ _ =
     subst (λ (r : Found). SetFound (sheetOf (args .sheet)) (limitsOf (args .caps)) (startsIn (args .seeds) (args .k)) v (find .last .0) r)
-    (c .before .found .given .1) (find .ensures) in
-    record { long = omega (arith, c .before .before .before .before .before .before .before .if1 .left); whole = whole }
+    (at-found .found .given .1) (find .ensures) in
+    record { long = omega (arith, at-else1 .if1 .left); whole = whole }
 
 pub begin-set-spec : {M : Type 1} → statement M
 begin-set-spec =

@@ -18,6 +18,14 @@ Inv-loop s n out₀ i₀ out i = (i ≤ n) × (length out ≡ length out₀) × 
 abbrev μ-loop : tie.MeasureT-loop
 μ-loop s n out₀ i₀ out i = n - i
 
+-- ---- the stages of the function, each from a later one
+abbrev start-of-at-loop : tie.At-loop Inv-loop μ-loop → tie.Start Inv-loop μ-loop
+start-of-at-loop s = s .before .before .before
+
+abbrev at-loop-of-hex-digit : tie.After-hex-digit Inv-loop μ-loop → tie.At-loop Inv-loop μ-loop
+at-loop-of-hex-digit s = s .before .before .before
+
+-- ---- what is left to show
 loop-holds : tie.Need-loop-holds Inv-loop μ-loop
 loop-holds c = (search needs, search needs, rw (tabulate-none (byteOf (c .before .before .args .s .now))))
 
@@ -63,7 +71,7 @@ loop-less c = search needs
 
 loop-again : tie.Need-loop-again Inv-loop μ-loop
 loop-again c =
-    let a = c .before .before .before .before .before .before .before .before .args in
+    let a = (start-of-at-loop (at-loop-of-hex-digit (c .before .before))) .args in
     let l = c .before .before .before .before .before .loop in (
       search needs,
       simp length-set (l .inv .1),

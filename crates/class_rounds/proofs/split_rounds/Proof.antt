@@ -48,6 +48,30 @@ line-listed-of-split-listed s = s .before .before .before .before .before .befor
 abbrev split-listed-of-else1 : tie.Else1 Inv-loop μ-loop → tie.After-split-listed Inv-loop μ-loop
 split-listed-of-else1 s = s .before .before .before
 
+abbrev start-of-at-loop : tie.At-loop Inv-loop μ-loop → tie.Start Inv-loop μ-loop
+start-of-at-loop s =
+    start-of-forget-dominators (forget-dominators-of-found-classes (found-classes-of-choose-rest (choose-rest-of-list-all (list-all-of-at-loop s))))
+
+-- ---- what the loop keeps, from the start on
+refining-at-loop : (s : tie.At-loop Inv-loop μ-loop)
+    → let g = start-of-at-loop s .args in
+    let l = s .loop in
+    Refining (g .work .now) (g .n) (g .m) (l .work) (l .sets) (g .width) (l .list) (l .k) (l .round) (l .count)
+refining-at-loop s =
+    let at-list-all = list-all-of-at-loop s in
+    let at-choose-rest = choose-rest-of-list-all at-list-all in
+    let at-found-classes = found-classes-of-choose-rest at-choose-rest in
+    let at-forget-dominators = forget-dominators-of-found-classes at-found-classes in
+    let b = start-of-forget-dominators at-forget-dominators in
+    let g = b .args in
+    let v : List ℕ = g .work .now in
+    let f = at-forget-dominators .forget-dominators in
+    let d = at-found-classes .found-classes in
+    let h = at-choose-rest .choose-rest in
+    let a = at-list-all .list-all in
+    s .loop .inv .2 v (b .pre .0) (refining-first v (g .n) (g .m) (f .last .0) (f .ensures) (d .last .0) (d .result) (d .ensures)
+    (h .last .0) nobody (h .ensures) (g .sets .now) (g .width) (a .last .0) (a .ensures) (b .pre .0))
+
 -- ---- what is left to show
 forget-dominators-requires : tie.Need-forget-dominators-requires Inv-loop μ-loop
 forget-dominators-requires c κs = let H = c .before .before .before .pre .0 .ready .held in (H .few .1, H .long)
@@ -87,22 +111,11 @@ loop-holds c = (refl, refl, (λ v Y G. G))
 line-listed-requires : tie.Need-line-listed-requires Inv-loop μ-loop
 line-listed-requires c κs =
     let at-loop = c .before .before .before in
-    let at-list-all = list-all-of-at-loop at-loop in
-    let at-choose-rest = choose-rest-of-list-all at-list-all in
-    let at-found-classes = found-classes-of-choose-rest at-choose-rest in
-    let at-forget-dominators = forget-dominators-of-found-classes at-found-classes in
-    let at-start = start-of-forget-dominators at-forget-dominators in
-    let b = at-start in
+    let b = start-of-at-loop at-loop in
     let g = b .args in
     let v : List ℕ = g .work .now in
-    let f = at-forget-dominators .forget-dominators in
-    let d = at-found-classes .found-classes in
-    let h = at-choose-rest .choose-rest in
-    let a = at-list-all .list-all in
     let l = at-loop .loop in
-    let G : Refining v (g .n) (g .m) (l .work) (l .sets) (g .width) (l .list) (l .k) (l .round) (l .count) =
-    l .inv .2 v (b .pre .0) (refining-first v (g .n) (g .m) (f .last .0) (f .ensures) (d .last .0) (d .result) (d .ensures) (h .last .0) nobody (h .ensures)
-    (g .sets .now) (g .width) (a .last .0) (a .ensures) (b .pre .0)) in
+    let G = refining-at-loop at-loop in
     let H = b .pre .0 .ready .held in (
       refining-shape v (g .n) (g .m) (l .work) (l .sets) (g .width) (l .list) (l .k) (l .round) (l .count) G (b .pre .0),
       omega (arith, G .listed .few, H .few .0),
@@ -116,44 +129,19 @@ add-split-listed : tie.Need-add-split-listed Inv-loop μ-loop
 add-split-listed c =
     let at-line-listed = c .before .before .before .before .before .before in
     let at-loop = at-loop-of-line-listed at-line-listed in
-    let at-list-all = list-all-of-at-loop at-loop in
-    let at-choose-rest = choose-rest-of-list-all at-list-all in
-    let at-found-classes = found-classes-of-choose-rest at-choose-rest in
-    let at-forget-dominators = forget-dominators-of-found-classes at-found-classes in
-    let at-start = start-of-forget-dominators at-forget-dominators in
-    let b = at-start in
-    let g = b .args in
-    let v : List ℕ = g .work .now in
-    let f = at-forget-dominators .forget-dominators in
-    let d = at-found-classes .found-classes in
-    let h = at-choose-rest .choose-rest in
-    let a = at-list-all .list-all in
-    let l = at-loop .loop in
-    let G : Refining v (g .n) (g .m) (l .work) (l .sets) (g .width) (l .list) (l .k) (l .round) (l .count) =
-    l .inv .2 v (b .pre .0) (refining-first v (g .n) (g .m) (f .last .0) (f .ensures) (d .last .0) (d .result) (d .ensures) (h .last .0) nobody (h .ensures)
-    (g .sets .now) (g .width) (a .last .0) (a .ensures) (b .pre .0)) in
+    let b = start-of-at-loop at-loop in
+    let G = refining-at-loop at-loop in
     omega (arith, G .early, classed-count (G .classed), b .pre .0 .ready .held .few)
 
 split-listed-requires : tie.Need-split-listed-requires Inv-loop μ-loop
 split-listed-requires c κs =
     let at-line-listed = c .before .before .before .before .before .before in
     let at-loop = at-loop-of-line-listed at-line-listed in
-    let at-list-all = list-all-of-at-loop at-loop in
-    let at-choose-rest = choose-rest-of-list-all at-list-all in
-    let at-found-classes = found-classes-of-choose-rest at-choose-rest in
-    let at-forget-dominators = forget-dominators-of-found-classes at-found-classes in
-    let at-start = start-of-forget-dominators at-forget-dominators in
-    let b = at-start in
+    let b = start-of-at-loop at-loop in
     let g = b .args in
     let v : List ℕ = g .work .now in
-    let f = at-forget-dominators .forget-dominators in
-    let d = at-found-classes .found-classes in
-    let h = at-choose-rest .choose-rest in
-    let a = at-list-all .list-all in
     let l = at-loop .loop in
-    let G : Refining v (g .n) (g .m) (l .work) (l .sets) (g .width) (l .list) (l .k) (l .round) (l .count) =
-    l .inv .2 v (b .pre .0) (refining-first v (g .n) (g .m) (f .last .0) (f .ensures) (d .last .0) (d .result) (d .ensures) (h .last .0) nobody (h .ensures)
-    (g .sets .now) (g .width) (a .last .0) (a .ensures) (b .pre .0)) in
+    let G = refining-at-loop at-loop in
     let u = at-line-listed .line-listed in
     let H = b .pre .0 .ready .held in (
       H .few .0,
@@ -169,24 +157,9 @@ same-length c =
     let at-split-listed = c .before .before .before in
     let at-line-listed = line-listed-of-split-listed at-split-listed in
     let at-loop = at-loop-of-line-listed at-line-listed in
-    let at-list-all = list-all-of-at-loop at-loop in
-    let at-choose-rest = choose-rest-of-list-all at-list-all in
-    let at-found-classes = found-classes-of-choose-rest at-choose-rest in
-    let at-forget-dominators = forget-dominators-of-found-classes at-found-classes in
-    let f = at-forget-dominators .forget-dominators in
-    let d = at-found-classes .found-classes in
-    let h = at-choose-rest .choose-rest in
     let u = at-line-listed .line-listed in
     let s = at-split-listed .split-listed in
-    omega (
-      arith,
-      f .ensures .outside .long,
-      d .ensures .only .long,
-      h .ensures .only .long,
-      at-loop .loop .inv .0,
-      u .ensures .only .long,
-      s .ensures .only .long,
-    )
+    omega (arith, refining-at-loop at-loop .same-set .long, u .ensures .only .long, s .ensures .only .long)
 
 same-length-2 : tie.Need-same-length-2 Inv-loop μ-loop
 same-length-2 c =
@@ -201,22 +174,11 @@ returns c =
     let at-split-listed = c .before .before .before in
     let at-line-listed = line-listed-of-split-listed at-split-listed in
     let at-loop = at-loop-of-line-listed at-line-listed in
-    let at-list-all = list-all-of-at-loop at-loop in
-    let at-choose-rest = choose-rest-of-list-all at-list-all in
-    let at-found-classes = found-classes-of-choose-rest at-choose-rest in
-    let at-forget-dominators = forget-dominators-of-found-classes at-found-classes in
-    let at-start = start-of-forget-dominators at-forget-dominators in
-    let b = at-start in
+    let b = start-of-at-loop at-loop in
     let g = b .args in
     let v : List ℕ = g .work .now in
-    let f = at-forget-dominators .forget-dominators in
-    let d = at-found-classes .found-classes in
-    let h = at-choose-rest .choose-rest in
-    let a = at-list-all .list-all in
     let l = at-loop .loop in
-    let G : Refining v (g .n) (g .m) (l .work) (l .sets) (g .width) (l .list) (l .k) (l .round) (l .count) =
-    l .inv .2 v (b .pre .0) (refining-first v (g .n) (g .m) (f .last .0) (f .ensures) (d .last .0) (d .result) (d .ensures) (h .last .0) nobody (h .ensures)
-    (g .sets .now) (g .width) (a .last .0) (a .ensures) (b .pre .0)) in
+    let G = refining-at-loop at-loop in
     let u = at-line-listed .line-listed in
     let s = at-split-listed .split-listed in
     refining-last v (g .n) (g .m) (l .work) (l .sets) (g .width) (l .list) (l .k) (l .round) (l .count) G (u .last .0) (u .last .1 .0) (u .ensures) (s .last .0) (s .result) (s .ensures) (c .if1 .taken)
@@ -227,22 +189,9 @@ list-next-requires c κs =
     let at-split-listed = split-listed-of-else1 at-else1 in
     let at-line-listed = line-listed-of-split-listed at-split-listed in
     let at-loop = at-loop-of-line-listed at-line-listed in
-    let at-list-all = list-all-of-at-loop at-loop in
-    let at-choose-rest = choose-rest-of-list-all at-list-all in
-    let at-found-classes = found-classes-of-choose-rest at-choose-rest in
-    let at-forget-dominators = forget-dominators-of-found-classes at-found-classes in
-    let at-start = start-of-forget-dominators at-forget-dominators in
-    let b = at-start in
-    let g = b .args in
-    let v : List ℕ = g .work .now in
-    let f = at-forget-dominators .forget-dominators in
-    let d = at-found-classes .found-classes in
-    let h = at-choose-rest .choose-rest in
-    let a = at-list-all .list-all in
+    let b = start-of-at-loop at-loop in
     let l = at-loop .loop in
-    let G : Refining v (g .n) (g .m) (l .work) (l .sets) (g .width) (l .list) (l .k) (l .round) (l .count) =
-    l .inv .2 v (b .pre .0) (refining-first v (g .n) (g .m) (f .last .0) (f .ensures) (d .last .0) (d .result) (d .ensures) (h .last .0) nobody (h .ensures)
-    (g .sets .now) (g .width) (a .last .0) (a .ensures) (b .pre .0)) in
+    let G = refining-at-loop at-loop in
     let u = at-line-listed .line-listed in
     let s = at-split-listed .split-listed in
     let H = b .pre .0 .ready .held in (
@@ -261,46 +210,14 @@ add-round c =
     let at-split-listed = split-listed-of-else1 at-else1 in
     let at-line-listed = line-listed-of-split-listed at-split-listed in
     let at-loop = at-loop-of-line-listed at-line-listed in
-    let at-list-all = list-all-of-at-loop at-loop in
-    let at-choose-rest = choose-rest-of-list-all at-list-all in
-    let at-found-classes = found-classes-of-choose-rest at-choose-rest in
-    let at-forget-dominators = forget-dominators-of-found-classes at-found-classes in
-    let at-start = start-of-forget-dominators at-forget-dominators in
-    let b = at-start in
-    let g = b .args in
-    let v : List ℕ = g .work .now in
-    let f = at-forget-dominators .forget-dominators in
-    let d = at-found-classes .found-classes in
-    let h = at-choose-rest .choose-rest in
-    let a = at-list-all .list-all in
-    let l = at-loop .loop in
-    let G : Refining v (g .n) (g .m) (l .work) (l .sets) (g .width) (l .list) (l .k) (l .round) (l .count) =
-    l .inv .2 v (b .pre .0) (refining-first v (g .n) (g .m) (f .last .0) (f .ensures) (d .last .0) (d .result) (d .ensures) (h .last .0) nobody (h .ensures)
-    (g .sets .now) (g .width) (a .last .0) (a .ensures) (b .pre .0)) in
+    let b = start-of-at-loop at-loop in
+    let G = refining-at-loop at-loop in
     omega (arith, G .early, classed-count (G .classed), b .pre .0 .ready .held .few)
 
 loop-less : tie.Need-loop-less Inv-loop μ-loop
 loop-less c =
     let at-else1 = c .before .before .before .before .before .before in
     let at-split-listed = split-listed-of-else1 at-else1 in
-    let at-line-listed = line-listed-of-split-listed at-split-listed in
-    let at-loop = at-loop-of-line-listed at-line-listed in
-    let at-list-all = list-all-of-at-loop at-loop in
-    let at-choose-rest = choose-rest-of-list-all at-list-all in
-    let at-found-classes = found-classes-of-choose-rest at-choose-rest in
-    let at-forget-dominators = forget-dominators-of-found-classes at-found-classes in
-    let at-start = start-of-forget-dominators at-forget-dominators in
-    let b = at-start in
-    let g = b .args in
-    let v : List ℕ = g .work .now in
-    let f = at-forget-dominators .forget-dominators in
-    let d = at-found-classes .found-classes in
-    let h = at-choose-rest .choose-rest in
-    let a = at-list-all .list-all in
-    let l = at-loop .loop in
-    let G : Refining v (g .n) (g .m) (l .work) (l .sets) (g .width) (l .list) (l .k) (l .round) (l .count) =
-    l .inv .2 v (b .pre .0) (refining-first v (g .n) (g .m) (f .last .0) (f .ensures) (d .last .0) (d .result) (d .ensures) (h .last .0) nobody (h .ensures)
-    (g .sets .now) (g .width) (a .last .0) (a .ensures) (b .pre .0)) in
     let s = at-split-listed .split-listed in
     omega (arith, s .ensures .more, classed-count (s .ensures .classed), at-else1 .if1 .left)
 
@@ -310,11 +227,7 @@ loop-again c =
     let at-split-listed = split-listed-of-else1 at-else1 in
     let at-line-listed = line-listed-of-split-listed at-split-listed in
     let at-loop = at-loop-of-line-listed at-line-listed in
-    let at-list-all = list-all-of-at-loop at-loop in
-    let at-choose-rest = choose-rest-of-list-all at-list-all in
-    let at-found-classes = found-classes-of-choose-rest at-choose-rest in
-    let at-forget-dominators = forget-dominators-of-found-classes at-found-classes in
-    let at-start = start-of-forget-dominators at-forget-dominators in
+    let at-start = start-of-at-loop at-loop in
     let g = at-start .args in
     let l = at-loop .loop in
     let u = at-line-listed .line-listed in

@@ -1,14 +1,14 @@
 -- `part_of` looks at one part after the other: those passed do not fit.
+use Rattle.list_laws.specs.PlacesPassed.{HoldsFrom, holds-next}
 use Rattle.class_splits.specs.LineTests.{PartFits}
-use Rattle.class_splits.specs.MemberSplits.{none-more}
 use borrow.Author.Needs.{needs}
 use native.Mathlib.Omega.{arith}
-use Prim.Native.Nat.{ℕ, _-_, _≤_, _<_}
+use Prim.Native.Nat.{_-_, _≤_}
 use Rattle.class_splits.proofs.part_of.Statement.{statement}
 use Rattle.class_splits.proofs.part_of.Tie as tie
 
 abbrev Inv-loop : tie.InvT-loop
-Inv-loop w c i old count k₀ k = (old ≤ k) × (k ≤ count) × ((j : ℕ) → old ≤ j → j < k → PartFits w j c i → ⊥)
+Inv-loop w c i old count k₀ k = (old ≤ k) × (k ≤ count) × HoldsFrom (λ j. PartFits w j c i → ⊥) old k
 
 abbrev μ-loop : tie.MeasureT-loop
 μ-loop w c i old count k₀ k = count - k
@@ -42,8 +42,8 @@ loop-again c =
     let l = c .before .before .before .loop in (
       omega arith,
       omega arith,
-      none-more (g .work .now) (g .c) (g .i) (g .old) (l .k) (c .before .is-part .result) (l .inv .2) (c .before .is-part .ensures)
-          (c .if1 .left),
+      holds-next (λ j. PartFits (g .work .now) j (g .c) (g .i) → ⊥) (g .old) (l .k) (l .inv .2)
+          (c .before .is-part .ensures .not-so (c .if1 .left)),
     )
 
 returns-2 : tie.Need-returns-2 Inv-loop μ-loop

@@ -9,6 +9,29 @@ use borrow.Author.Needs.{needs}
 use Rattle.class_splits.proofs.split_member.Statement.{statement}
 use Rattle.class_splits.proofs.split_member.Tie as tie
 
+-- ---- the stages of the function, each from a later one
+abbrev start-of-class-at : tie.After-class-at → tie.Start
+start-of-class-at s = s .before .before .before
+
+abbrev class-at-of-same-lines : tie.After-same-lines → tie.After-class-at
+class-at-of-same-lines s = s .before .before .before
+
+abbrev same-lines-of-else1 : tie.Else1 → tie.After-same-lines
+same-lines-of-else1 s = s .before
+
+abbrev else1-of-part-of : tie.After-part-of → tie.Else1
+else1-of-part-of s = s .before .before
+
+abbrev part-of-of-else2 : tie.Else2 → tie.After-part-of
+part-of-of-else2 s = s .before
+
+abbrev else2-of-put-class : tie.After-put-class → tie.Else2
+else2-of-put-class s = s .before .before
+
+abbrev start-of-part-of : tie.After-part-of → tie.Start
+start-of-part-of s = start-of-class-at (class-at-of-same-lines (same-lines-of-else1 (else1-of-part-of s)))
+
+-- ---- what is left to show
 class-at-requires : tie.Need-class-at-requires
 class-at-requires c κs = let R = c .before .before .pre .0 in (omega (arith, R .few, R .inside), R .long)
 
@@ -53,16 +76,12 @@ returns c =
 
 part-of-requires : tie.Need-part-of-requires
 part-of-requires c κs =
-    let R = c .before .before .before .before .before .before .before .before .pre .0 in
+    let at-start = start-of-class-at (class-at-of-same-lines (same-lines-of-else1 (c .before))) in
+    let R = at-start .pre .0 in
     (R .more, ready-count R, ready-own R, ready-lines R, R .long)
 
 cast-work : tie.Need-cast-work
-cast-work c = omega (
-  arith,
-  c .part-of .ensures .within,
-  ready-count
-      (c .before .before .before .before .before .before .before .before .before .pre .0),
-)
+cast-work c = omega (arith, c .part-of .ensures .within, ready-count (start-of-part-of c .pre .0))
 
 add-work : tie.Need-add-work
 add-work c = search needs
@@ -71,31 +90,38 @@ mul-work : tie.Need-mul-work
 mul-work c = search needs
 
 slice-write-work : tie.Need-slice-write-work
-slice-write-work c = let R = c .before .before .before .before .before .before .before .before .before .pre .0 in omega
-    (arith, R .few, R .inside, R .long)
+slice-write-work c = let R = start-of-part-of c .pre .0 in omega (arith, R .few, R .inside, R .long)
 
 same-length-2 : tie.Need-same-length-2
 same-length-2 c = search needs
 
 returns-2 : tie.Need-returns-2
 returns-2 c =
-    let g = c .before .before .before .before .before .before .before .before .before .before .args in
-    let k = c .before .before .before .before .before .before .before .class-at in
-    let s = c .before .before .before .before .same-lines in
-    let p = c .before .part-of in
+    let at-part-of = c .before in
+    let at-else1 = else1-of-part-of at-part-of in
+    let at-same-lines = same-lines-of-else1 at-else1 in
+    let at-class-at = class-at-of-same-lines at-same-lines in
+    let at-start = start-of-class-at at-class-at in
+    let g = at-start .args in
+    let k = at-class-at .class-at in
+    let s = at-same-lines .same-lines in
+    let p = at-part-of .part-of in
     split-joins (g .work .now) (g .round) (g .i) (g .old) (g .count) (k .result) (k .ensures) (s .result) (s .ensures)
-    (c .before .before .before .if1 .left)
+    (at-else1 .if1 .left)
     (p .result) (p .ensures) (c .if2 .taken)
 
 put-class-requires : tie.Need-put-class-requires
 put-class-requires c κs =
-    let b = c .before .before .before .before .before .before .before .before .before .before .before in
+    let at-else1 = else1-of-part-of (part-of-of-else2 (c .before)) in
+    let at-same-lines = same-lines-of-else1 at-else1 in
+    let at-class-at = class-at-of-same-lines at-same-lines in
+    let b = start-of-class-at at-class-at in
     let g = b .args in
     let R = b .pre .0 in
-    let k = c .before .before .before .before .before .before .before .before .class-at in
-    let s = c .before .before .before .before .before .same-lines in (
+    let k = at-class-at .class-at in
+    let s = at-same-lines .same-lines in (
       read-room (g .work .now) (g .round) (g .i) (g .old) (g .count) (k .result) (k .ensures) (s .result) (s .ensures) R
-          (c .before .before .before .before .if1 .left),
+          (at-else1 .if1 .left),
       omega (arith, k .ensures, ready-class R, ready-count R),
       b .pre .1,
       omega (arith, R .few, R .inside),
@@ -104,7 +130,7 @@ put-class-requires c κs =
 
 add-result : tie.Need-add-result
 add-result c =
-    let b = c .before .before .before .before .before .before .before .before .before .before .before .before .before .before in
+    let b = start-of-part-of (part-of-of-else2 (else2-of-put-class (c .before .before))) in
     omega (arith, ready-count (b .pre .0))
 
 same-length-3 : tie.Need-same-length-3
@@ -112,14 +138,21 @@ same-length-3 c = ap length (c .before .before .put-class .ensures) ∙ simp len
 
 returns-3 : tie.Need-returns-3
 returns-3 c =
-    let g = c .before .before .before .before .before .before .before .before .before .before .before .before .before .before .args in
-    let k = c .before .before .before .before .before .before .before .before .before .before .before .class-at in
-    let s = c .before .before .before .before .before .before .before .before .same-lines in
-    let p = c .before .before .before .before .before .part-of in
-    let q = c .before .before .put-class in
+    let at-put-class = c .before .before in
+    let at-else2 = else2-of-put-class at-put-class in
+    let at-part-of = part-of-of-else2 at-else2 in
+    let at-else1 = else1-of-part-of at-part-of in
+    let at-same-lines = same-lines-of-else1 at-else1 in
+    let at-class-at = class-at-of-same-lines at-same-lines in
+    let at-start = start-of-class-at at-class-at in
+    let g = at-start .args in
+    let k = at-class-at .class-at in
+    let s = at-same-lines .same-lines in
+    let p = at-part-of .part-of in
+    let q = at-put-class .put-class in
     split-begins (g .work .now) (g .round) (g .i) (g .old) (g .count) (k .result) (k .ensures) (s .result) (s .ensures)
-    (c .before .before .before .before .before .before .before .if1 .left)
-    (p .result) (p .ensures) (c .before .before .before .before .if2 .left) (q .last .0) (q .ensures)
+    (at-else1 .if1 .left)
+    (p .result) (p .ensures) (at-else2 .if2 .left) (q .last .0) (q .ensures)
 
 pub split-member-spec : {M : Type 1} → statement M
 split-member-spec =

@@ -22,6 +22,14 @@ Inv-loop rules n facts table₀ set₀ table set =
 abbrev μ-loop : tie.MeasureT-loop
 μ-loop rules n facts table₀ set₀ table set = set
 
+-- ---- the stages of the function, each from a later one
+abbrev start-of-gather : tie.After-gather Inv-loop μ-loop → tie.Start Inv-loop μ-loop
+start-of-gather s = s .before .before .before
+
+abbrev gather-of-at-loop : tie.At-loop Inv-loop μ-loop → tie.After-gather Inv-loop μ-loop
+gather-of-at-loop s = s .before .before .before .before
+
+-- ---- what is left to show
 gather-requires : tie.Need-gather-requires Inv-loop μ-loop
 gather-requires c κs = search needs
 
@@ -59,8 +67,9 @@ slice-write-work c = search needs
 
 cast-work-2 : tie.Need-cast-work-2 Inv-loop μ-loop
 cast-work-2 c =
-    let l = c .before .before .loop in
-    let start = c .before .before .before .before .before .before .before .before .before in
+    let at-loop = c .before .before in
+    let start = start-of-gather (gather-of-at-loop at-loop) in
+    let l = at-loop .loop in
     let a = start .args in
     let few : 2 ^ a .facts ≤ 4096 = omega arith in
     let s = l .set - 1 in
@@ -70,8 +79,9 @@ cast-work-2 c =
 
 mul-work-2 : tie.Need-mul-work-2 Inv-loop μ-loop
 mul-work-2 c =
-    let l = c .before .before .loop in
-    let start = c .before .before .before .before .before .before .before .before .before in
+    let at-loop = c .before .before in
+    let start = start-of-gather (gather-of-at-loop at-loop) in
+    let l = at-loop .loop in
     let a = start .args in
     let few : 2 ^ a .facts ≤ 4096 = omega arith in
     let s = l .set - 1 in
@@ -81,14 +91,16 @@ mul-work-2 c =
 
 slice-read-work : tie.Need-slice-read-work Inv-loop μ-loop
 slice-read-work c =
-    let l = c .before .before .before .loop in
-    let start = c .before .before .before .before .before .before .before .before .before .before in
+    let at-loop = c .before .before .before in
+    let at-gather = gather-of-at-loop at-loop in
+    let start = start-of-gather at-gather in
+    let l = at-loop .loop in
     let a = start .args in
     let few : 2 ^ a .facts ≤ 4096 = omega arith in
     let s = l .set - 1 in
     let fits : bitOr s (getD (l .work) s 0) < 2 ^ a .facts =
     entry-fits (rulesIn (a .rules .now) (a .n)) (a .facts) (l .inv .3 .at s (omega arith)) (omega arith) (start .pre .3) in
-    simp length-set (omega (arith, c .before .before .before .before .before .before .before .gather .ensures .1 .long))
+    simp length-set (omega (arith, at-gather .gather .ensures .1 .long))
 
 mul-work-3 : tie.Need-mul-work-3 Inv-loop μ-loop
 mul-work-3 c = search needs
@@ -101,8 +113,9 @@ loop-less c = search needs
 
 loop-again : tie.Need-loop-again Inv-loop μ-loop
 loop-again c =
-    let l = c .before .before .before .loop in
-    let start = c .before .before .before .before .before .before .before .before .before .before in
+    let at-loop = c .before .before .before in
+    let start = start-of-gather (gather-of-at-loop at-loop) in
+    let l = at-loop .loop in
     let a = start .args in
     let few : 2 ^ a .facts ≤ 4096 = omega arith in
     let s = l .set - 1 in

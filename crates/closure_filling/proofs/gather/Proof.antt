@@ -17,6 +17,11 @@ Inv-loop rules n facts table₀ size fact₀ table fact =
 abbrev μ-loop : tie.MeasureT-loop
 μ-loop rules n facts table₀ size fact₀ table fact = facts - fact
 
+-- ---- the start, from the loop
+abbrev start-of-at-loop : tie.At-loop Inv-loop μ-loop → tie.Start Inv-loop μ-loop
+start-of-at-loop s = s .before .before .before .before .before .before .before
+
+-- ---- what is left to show
 sets-of-requires : tie.Need-sets-of-requires Inv-loop μ-loop
 sets-of-requires c κs = search needs
 
@@ -41,7 +46,7 @@ sets-of-requires-2 c κs = search needs
 
 spread-fact-requires : tie.Need-spread-fact-requires Inv-loop μ-loop
 spread-fact-requires c κs =
-    let a = c .before .before .before .before .before .before .before .before .before .before .args in
+    let a = start-of-at-loop (c .before .before .before) .args in
     let l = c .before .before .before .loop in
     let e : c .before .sets-of2 .result ≡ 2 ^ (a .facts - l .fact - 1) = omega arith in
     let f : 2 * c .before .sets-of2 .result * 2 ^ l .fact ≡ 2 ^ a .facts = rw e (blocks-of (a .facts) (l .fact) (omega arith)) in
@@ -55,7 +60,7 @@ loop-less c = search needs
 
 loop-again : tie.Need-loop-again Inv-loop μ-loop
 loop-again c =
-    let a = c .before .before .before .before .before .before .before .before .before .before .before .before .before .args in
+    let a = start-of-at-loop (c .before .before .before .before .before .before) .args in
     let l = c .before .before .before .before .before .before .loop in
     let r = c .before .before .before .before .sets-of2 .result in
     let e : r ≡ 2 ^ (a .facts - l .fact - 1) = omega arith in
@@ -69,7 +74,7 @@ same-length c = search needs
 
 returns : tie.Need-returns Inv-loop μ-loop
 returns c =
-    let a = c .before .before .before .before .before .before .before .before .args in
+    let a = start-of-at-loop (c .before) .args in
     let p = c .before .before .before .before .put-rules in
     let e : c .before .before .before .before .before .before .sets-of .result ≡ 2 ^ a .facts = omega arith in
     let f : c .before .loop .fact ≡ a .facts = omega arith in

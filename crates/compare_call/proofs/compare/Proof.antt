@@ -8,6 +8,14 @@ use Rattle.compare_call.specs.Compared.{Compared}
 use Rattle.compare_call.proofs.compare.Statement.{statement}
 use Rattle.compare_call.proofs.compare.Tie as tie
 
+-- ---- the stages of the function, each from a later one
+abbrev start-of-document-caps : tie.After-document-caps → tie.Start
+start-of-document-caps s = s .before .before .before .before .before .before
+
+abbrev document-caps-of-compare-within : tie.After-compare-within → tie.After-document-caps
+document-caps-of-compare-within s = s .before
+
+-- ---- what is left to show
 document-caps-requires : tie.Need-document-caps-requires
 document-caps-requires c κs = search needs
 
@@ -22,9 +30,11 @@ same-length-2 c = search needs
 
 returns : tie.Need-returns
 returns c =
-    let start = c .before .before .before .before .before .before .before .before .before .before .before in
-    let caps = c .before .before .before .before .before .document-caps in
-    let within = c .before .before .before .before .compare-within in
+    let at-compare-within = c .before .before .before .before in
+    let at-document-caps = document-caps-of-compare-within at-compare-within in
+    let start = start-of-document-caps at-document-caps in
+    let caps = at-document-caps .document-caps in
+    let within = at-compare-within .compare-within in
     let args = start .args in
     subst (λ (l : Limits). Compared (compareWith l (args .sheet .now) (args .left) (args .right) (length (args .work .now)) (length (args .answer .now)))
     (args .work .now) (args .answer .now) (within .last .1 .1 .1 .1 .0) (within .last .1 .1 .1 .0) (within .result))

@@ -18,6 +18,17 @@ Inv-loop rules n table₀ size i₀ table i =
 abbrev μ-loop : tie.MeasureT-loop
 μ-loop rules n table₀ size i₀ table i = n - i
 
+-- ---- the stages of the function, each from a later one
+abbrev start-of-clear-sets : tie.After-clear-sets Inv-loop μ-loop → tie.Start Inv-loop μ-loop
+start-of-clear-sets s = s .before .before .before
+
+abbrev clear-sets-of-at-loop : tie.At-loop Inv-loop μ-loop → tie.After-clear-sets Inv-loop μ-loop
+clear-sets-of-at-loop s = s .before .before .before
+
+abbrev at-loop-of-put-rule : tie.After-put-rule Inv-loop μ-loop → tie.At-loop Inv-loop μ-loop
+at-loop-of-put-rule s = s .before .before .before .before .before
+
+-- ---- what is left to show
 clear-sets-requires : tie.Need-clear-sets-requires Inv-loop μ-loop
 clear-sets-requires c κs = search needs
 
@@ -64,9 +75,11 @@ loop-less c = search needs
 
 loop-again : tie.Need-loop-again Inv-loop μ-loop
 loop-again c =
-    let a = c .before .before .before .before .before .before .before .before .before .before .before .before .before .args in
-    let l = c .before .before .before .before .before .before .before .loop in
-    let e = c .before .before .put-rule .ensures in
+    let at-put-rule = c .before .before in
+    let at-loop = at-loop-of-put-rule at-put-rule in
+    let a = (start-of-clear-sets (clear-sets-of-at-loop at-loop)) .args in
+    let l = at-loop .loop in
+    let e = at-put-rule .put-rule .ensures in
     let o = put-outside (a .size) (getD (a .rules .now) (2 * l .i) 0) (getD (a .rules .now) (2 * l .i + 1) 0) (l .work) in (
       search needs,
       rw e (omega (arith, o .long)),

@@ -14,6 +14,17 @@ Inv-loop table₀ blocks fact half q₀ table q = (q ≤ blocks) × Spread fact 
 abbrev μ-loop : tie.MeasureT-loop
 μ-loop table₀ blocks fact half q₀ table q = blocks - q
 
+-- ---- the stages of the function, each from a later one
+abbrev start-of-sets-of : tie.After-sets-of Inv-loop μ-loop → tie.Start Inv-loop μ-loop
+start-of-sets-of s = s .before .before
+
+abbrev sets-of-of-at-loop : tie.At-loop Inv-loop μ-loop → tie.After-sets-of Inv-loop μ-loop
+sets-of-of-at-loop s = s .before
+
+abbrev at-loop-of-spread-block : tie.After-spread-block Inv-loop μ-loop → tie.At-loop Inv-loop μ-loop
+at-loop-of-spread-block s = s .before .before .before
+
+-- ---- what is left to show
 sets-of-requires : tie.Need-sets-of-requires Inv-loop μ-loop
 sets-of-requires c κs = search needs
 
@@ -46,12 +57,15 @@ loop-less c = search needs
 
 loop-again : tie.Need-loop-again Inv-loop μ-loop
 loop-again c =
-    let a = c .before .before .before .before .before .before .before .before .args in
-    let l = c .before .before .before .before .before .loop in
-    let e : c .before .before .before .before .before .before .sets-of .result ≡ 2 ^ a .fact = omega arith in
-    let u : United (2 * l .q * 2 ^ a .fact) (2 ^ a .fact) (2 ^ a .fact) (l .work) (c .before .before .spread-block .last .0) =
-    rw e at (c .before .before .spread-block .ensures) in
-    (search needs, spread-next (a .fact) (l .q) (a .work .now) (l .work) (c .before .before .spread-block .last .0) (l .inv .1) u)
+    let at-spread-block = c .before .before in
+    let at-loop = at-loop-of-spread-block at-spread-block in
+    let at-sets-of = sets-of-of-at-loop at-loop in
+    let a = (start-of-sets-of at-sets-of) .args in
+    let l = at-loop .loop in
+    let e : at-sets-of .sets-of .result ≡ 2 ^ a .fact = omega arith in
+    let u : United (2 * l .q * 2 ^ a .fact) (2 ^ a .fact) (2 ^ a .fact) (l .work) (at-spread-block .spread-block .last .0) =
+    rw e at (at-spread-block .spread-block .ensures) in
+    (search needs, spread-next (a .fact) (l .q) (a .work .now) (l .work) (at-spread-block .spread-block .last .0) (l .inv .1) u)
 
 same-length : tie.Need-same-length Inv-loop μ-loop
 same-length c = search needs

@@ -10,6 +10,14 @@ use Rattle.dominators.proofs.irredundant.Statement.{statement}
 use Rattle.dominators.proofs.irredundant.Tie as tie
 use Rattle.work_layout.specs.WorkLayout.{movesAt, dominatorsAt}
 
+-- ---- the stages of the function, each from a later one
+abbrev start-of-still-dominated : tie.After-still-dominated → tie.Start
+start-of-still-dominated s = s .before .before .before .before .before
+
+abbrev still-dominated-of-look-from : tie.After-look-from → tie.After-still-dominated
+still-dominated-of-look-from s = s .before .before .before
+
+-- ---- what is left to show
 add-kept : tie.Need-add-kept
 add-kept c = search needs
 
@@ -78,13 +86,15 @@ same-length-2 c = search needs
 
 returns-2 : tie.Need-returns-2
 returns-2 c =
-    let b = c .before .before .before .before .before .before .before .before .before in
+    let at-look-from = c .before in
+    let at-still-dominated = still-dominated-of-look-from at-look-from in
+    let b = start-of-still-dominated at-still-dominated in
     let g = b .args in
     let w : List ℕ = g .work .now in
-    let s = c .before .before .before .before .still-dominated in
+    let s = at-still-dominated .still-dominated in
     judged-next w (g .n) (g .first) (g .j) (getD w (dominatorsAt + g .first + g .j) 0) (getD w (movesAt + g .first + g .j) 0 % 65536) refl refl
-    (b .pre .kept (g .j) (omega arith)) (s .result) (s .ensures) (c .before .before .before .if1 .left) (c .before .look-from .result)
-    (c .dominator-from .result) (c .before .look-from .ensures) (c .dominator-from .ensures) (omega (arith, b .pre .span, b .pre .long))
+    (b .pre .kept (g .j) (omega arith)) (s .result) (s .ensures) (c .before .before .before .if1 .left) (at-look-from .look-from .result)
+    (c .dominator-from .result) (at-look-from .look-from .ensures) (c .dominator-from .ensures) (omega (arith, b .pre .span, b .pre .long))
     (omega (arith, b .pre .span))
 
 pub irredundant-spec : {M : Type 1} → statement M

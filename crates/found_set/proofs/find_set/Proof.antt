@@ -5,13 +5,36 @@ use Rattle.sheet_types.specs.HeldSheet.{startsIn, sheetOf, nodesIn}
 use Rattle.comparison_laws.specs.SheetMoves.{conclusions-fit}
 use Rattle.ask_labels.specs.LabelShelfLaws.{sets-few}
 use Rattle.found_set.specs.FoundSet.{planOf}
-use Rattle.found_set.specs.SeedLaws.{seeds-on, seeds-over}
+use Rattle.seed_members.specs.SeedLaws.{seeds-on, seeds-over}
 use Rattle.found_set.specs.LentSheetLaws.{facts-few, rules-few, begins}
 use Rattle.found_set.specs.WholeSetLaws.{discovered-some}
 use Rattle.found_set.specs.FoundSetLaws.{seeds-pass, exploring-passes, whole-found, all-on, all-over}
 use Rattle.found_set.proofs.find_set.Statement.{statement}
 use Rattle.found_set.proofs.find_set.Tie as tie
 
+-- ---- the stages of the function, each from a later one
+abbrev start-of-fill-closures : tie.After-fill-closures → tie.Start
+start-of-fill-closures s = s .before .before .before .before .before .before
+
+abbrev fill-closures-of-clear-spans : tie.After-clear-spans → tie.After-fill-closures
+fill-closures-of-clear-spans s = s .before .before .before .before
+
+abbrev clear-spans-of-enter-seeds : tie.After-enter-seeds → tie.After-clear-spans
+clear-spans-of-enter-seeds s = s .before .before .before .before
+
+abbrev enter-seeds-of-e : tie.After-e → tie.After-enter-seeds
+enter-seeds-of-e s = s .before .before .before .before
+
+abbrev e-of-explore-sheet : tie.After-explore-sheet → tie.After-e
+e-of-explore-sheet s = s .before .before .before
+
+abbrev explore-sheet-of-r : tie.After-r → tie.After-explore-sheet
+explore-sheet-of-r s = s .before .before .before .before
+
+abbrev r-of-arrange : tie.After-arrange → tie.After-r
+r-of-arrange s = s .before .before .before
+
+-- ---- what is left to show
 cast-fill-closures : tie.Need-cast-fill-closures
 cast-fill-closures c = search needs
 
@@ -31,7 +54,7 @@ clear-spans-requires c κs = search needs
 
 enter-seeds-requires : tie.Need-enter-seeds-requires
 enter-seeds-requires c κs =
-    let b = c .before .before .before .before .before .before .before .before .before .before .before .before .before in
+    let b = start-of-fill-closures (fill-closures-of-clear-spans (c .before .before .before)) in
     (search needs, b .pre .1, omega (arith, b .pre .4 .few), λ i h. b .pre .4 .threads i (omega arith))
 
 enum-known-e : tie.Need-enum-known-e
@@ -45,23 +68,30 @@ same-length c = search needs
 
 returns : tie.Need-returns
 returns c =
-    let b = c .before .before .before .before .before .before .before .before .before .before .before .before .before .before .before .before .before .before in
+    let at-enter-seeds = c .before .before .before .before in
+    let at-clear-spans = clear-spans-of-enter-seeds at-enter-seeds in
+    let at-fill-closures = fill-closures-of-clear-spans at-clear-spans in
+    let b = start-of-fill-closures at-fill-closures in
     let g = b .args in
-    let f = c .before .before .before .before .before .before .before .before .before .before .before .before .fill-closures in
-    let n = c .before .before .before .before .before .before .before .before .clear-spans in
-    let m = c .before .before .before .before .enter-seeds in
+    let f = at-fill-closures .fill-closures in
+    let n = at-clear-spans .clear-spans in
+    let m = at-enter-seeds .enter-seeds in
     seeds-pass (g .sheet) (g .seeds) (g .k) (g .caps) (b .pre .2) (b .pre .4) (g .work .now) (f .last .1 .1 .1 .0) (n .last .0) (b .pre .0) (f .ensures .1)
     (n .ensures) (m .last .0)
     (seeds-over (n .last .0) (g .caps) (startsIn (g .seeds) (g .k)) (m .last .0) (m .result) (c .enum-told .given .1) (m .ensures))
 
 explore-sheet-requires : tie.Need-explore-sheet-requires
 explore-sheet-requires c κs =
-    let b = c .before .before .before .before .before .before .before .before .before .before .before .before .before .before .before .before .before .before .before .before in
+    let at-e = c .before .before in
+    let at-enter-seeds = enter-seeds-of-e at-e in
+    let at-clear-spans = clear-spans-of-enter-seeds at-enter-seeds in
+    let at-fill-closures = fill-closures-of-clear-spans at-clear-spans in
+    let b = start-of-fill-closures at-fill-closures in
     let g = b .args in
-    let f = c .before .before .before .before .before .before .before .before .before .before .before .before .before .before .fill-closures in
-    let n = c .before .before .before .before .before .before .before .before .before .before .clear-spans in
-    let m = c .before .before .before .before .before .before .enter-seeds in
-    let q = c .before .before .e .given in (
+    let f = at-fill-closures .fill-closures in
+    let n = at-clear-spans .clear-spans in
+    let m = at-enter-seeds .enter-seeds in
+    let q = at-e .e .given in (
       b .pre .2,
       b .pre .3,
       begins (g .sheet) (g .seeds) (g .k) (g .caps) (b .pre .2) (b .pre .4) (g .work .now) (f .last .1 .1 .1 .0) (n .last .0) (m .last .0) (q .0 .0) (b .pre .0)
@@ -80,13 +110,18 @@ same-length-2 c = search needs
 
 returns-2 : tie.Need-returns-2
 returns-2 c =
-    let b = c .before .before .before .before .before .before .before .before .before .before .before .before .before .before .before .before .before .before .before .before .before .before .before .before .before in
+    let at-explore-sheet = c .before .before .before .before in
+    let at-e = e-of-explore-sheet at-explore-sheet in
+    let at-enter-seeds = enter-seeds-of-e at-e in
+    let at-clear-spans = clear-spans-of-enter-seeds at-enter-seeds in
+    let at-fill-closures = fill-closures-of-clear-spans at-clear-spans in
+    let b = start-of-fill-closures at-fill-closures in
     let g = b .args in
-    let f = c .before .before .before .before .before .before .before .before .before .before .before .before .before .before .before .before .before .before .before .fill-closures in
-    let n = c .before .before .before .before .before .before .before .before .before .before .before .before .before .before .before .clear-spans in
-    let m = c .before .before .before .before .before .before .before .before .before .before .before .enter-seeds in
-    let q = c .before .before .before .before .before .before .before .e .given in
-    let x = c .before .before .before .before .explore-sheet in
+    let f = at-fill-closures .fill-closures in
+    let n = at-clear-spans .clear-spans in
+    let m = at-enter-seeds .enter-seeds in
+    let q = at-e .e .given in
+    let x = at-explore-sheet .explore-sheet in
     exploring-passes (g .sheet) (g .seeds) (g .k) (g .caps) (b .pre .2) (b .pre .4) (g .work .now) (f .last .1 .1 .1 .0) (n .last .0) (b .pre .0)
     (f .ensures .1) (n .ensures) (m .last .0) (q .0 .0) (f .ensures .0)
     (seeds-on (n .last .0) (g .caps) (startsIn (g .seeds) (g .k)) (m .last .0) (m .result) (q .1) (m .ensures))
@@ -96,11 +131,16 @@ returns-2 c =
 
 arrange-requires : tie.Need-arrange-requires
 arrange-requires c κs =
-    let g = c .before .before .before .before .before .before .before .before .before .before .before .before .before .before .before .before .before .before .before .before .before .before .before .before .before .before .before .args in
-    let m = c .before .before .before .before .before .before .before .before .before .before .before .before .before .enter-seeds in
-    let q = c .before .before .before .before .before .before .before .before .before .e .given in
-    let x = c .before .before .before .before .before .before .explore-sheet in
-    let r = c .before .before .r .given in
+    let at-r = c .before .before in
+    let at-explore-sheet = explore-sheet-of-r at-r in
+    let at-e = e-of-explore-sheet at-explore-sheet in
+    let at-enter-seeds = enter-seeds-of-e at-e in
+    let at-start = start-of-fill-closures (fill-closures-of-clear-spans (clear-spans-of-enter-seeds at-enter-seeds)) in
+    let g = at-start .args in
+    let m = at-enter-seeds .enter-seeds in
+    let q = at-e .e .given in
+    let x = at-explore-sheet .explore-sheet in
+    let r = at-r .r .given in
     let o = all-on (nodesIn (g .sheet .nodes) (g .sheet .«node_count»)) (planOf (g .sheet) (g .caps)) (m .last .0) (q .0 .0) (x .last .0) (x .result)
     (r .1) (x .ensures) in
     discovered-some (o .exploring) (o .all)
@@ -110,15 +150,22 @@ same-length-3 c = search needs
 
 returns-3 : tie.Need-returns-3
 returns-3 c =
-    let b = c .before .before .before .before .before .before .before .before .before .before .before .before .before .before .before .before .before .before .before .before .before .before .before .before .before .before .before .before .before .before in
+    let at-arrange = c .before .before in
+    let at-r = r-of-arrange at-arrange in
+    let at-explore-sheet = explore-sheet-of-r at-r in
+    let at-e = e-of-explore-sheet at-explore-sheet in
+    let at-enter-seeds = enter-seeds-of-e at-e in
+    let at-clear-spans = clear-spans-of-enter-seeds at-enter-seeds in
+    let at-fill-closures = fill-closures-of-clear-spans at-clear-spans in
+    let b = start-of-fill-closures at-fill-closures in
     let g = b .args in
-    let f = c .before .before .before .before .before .before .before .before .before .before .before .before .before .before .before .before .before .before .before .before .before .before .before .before .fill-closures in
-    let n = c .before .before .before .before .before .before .before .before .before .before .before .before .before .before .before .before .before .before .before .before .clear-spans in
-    let m = c .before .before .before .before .before .before .before .before .before .before .before .before .before .before .before .before .enter-seeds in
-    let q = c .before .before .before .before .before .before .before .before .before .before .before .before .e .given in
-    let x = c .before .before .before .before .before .before .before .before .before .explore-sheet in
-    let r = c .before .before .before .before .before .r .given in
-    let z = c .before .before .arrange in
+    let f = at-fill-closures .fill-closures in
+    let n = at-clear-spans .clear-spans in
+    let m = at-enter-seeds .enter-seeds in
+    let q = at-e .e .given in
+    let x = at-explore-sheet .explore-sheet in
+    let r = at-r .r .given in
+    let z = at-arrange .arrange in
     whole-found (g .sheet) (g .seeds) (g .k) (g .caps) (b .pre .2) (b .pre .4) (g .work .now) (f .last .1 .1 .1 .0) (n .last .0) (b .pre .0)
     (f .ensures .1) (n .ensures) (m .last .0) (q .0 .0) (f .ensures .0)
     (seeds-on (n .last .0) (g .caps) (startsIn (g .seeds) (g .k)) (m .last .0) (m .result) (q .1) (m .ensures))

@@ -8,6 +8,14 @@ use Rattle.label_search.specs.LabelScanLaws.{least-alone, numbers-distin
 use Rattle.label_search.proofs.labels_from.Statement.{statement}
 use Rattle.label_search.proofs.labels_from.Tie as tie
 
+-- ---- the stages of the function, each from a later one
+abbrev start-of-scan-labels : tie.After-scan-labels → tie.Start
+start-of-scan-labels s = s .before .before .before .before
+
+abbrev scan-labels-of-sort-numbers : tie.After-sort-numbers → tie.After-scan-labels
+scan-labels-of-sort-numbers s = s .before .before .before .before
+
+-- ---- what is left to show
 slice-read-work : tie.Need-slice-read-work
 slice-read-work c = search needs
 
@@ -34,10 +42,12 @@ scan-labels-requires c κs = search needs
 
 returns-2 : tie.Need-returns-2
 returns-2 c =
-    let start = c .before .before .before .before .before .before .before .before .before .before in
+    let at-sort-numbers = c .before .before in
+    let at-scan-labels = scan-labels-of-sort-numbers at-sort-numbers in
+    let start = start-of-scan-labels at-scan-labels in
     let x = start .args in
-    let scan = c .before .before .before .before .before .before .scan-labels in
-    let sort = c .before .before .sort-numbers in (
+    let scan = at-scan-labels .scan-labels in
+    let sort = at-sort-numbers .sort-numbers in (
       sorted-labels (x .facts) (x .d) (x .c) (x .at) (x .work .now) (start .pre) (scan .result) (scan .last .0) (scan .ensures .1) (sort .last .0)
           (sort .ensures) (scan .ensures .0),
       scan .ensures .1,
@@ -50,9 +60,10 @@ add-sort-numbers c = search needs
 
 sort-numbers-requires : tie.Need-sort-numbers-requires
 sort-numbers-requires c κs =
-    let start = c .before .before .before .before .before .before .before in
+    let at-scan-labels = c .before .before .before in
+    let start = start-of-scan-labels at-scan-labels in
     let x = start .args in
-    let scan = c .before .before .before .scan-labels in
+    let scan = at-scan-labels .scan-labels in
     let n = numbers-distinct (x .facts) (x .d) (x .c) (x .at) (x .work .now) (start .pre) (scan .result) (scan .last .0) (scan .ensures .1) in
     (search needs, omega (arith, scan .ensures .2 .long), n (scan .ensures .0))
 

@@ -15,6 +15,14 @@ Inv-loop w₀ facts d c at size n₀ hint₀ v₀ w n hint v = Scanned facts d c
 abbrev μ-loop : tie.MeasureT-loop
 μ-loop w₀ facts d c at size n₀ hint₀ v₀ w n hint v = size - v
 
+-- ---- the stages of the function, each from a later one
+abbrev start-of-at-loop : tie.At-loop Inv-loop μ-loop → tie.Start Inv-loop μ-loop
+start-of-at-loop s = s .before .before .before
+
+abbrev at-loop-of-try-set : tie.After-try-set Inv-loop μ-loop → tie.At-loop Inv-loop μ-loop
+at-loop-of-try-set s = s .before .before .before
+
+-- ---- what is left to show
 sets-of-requires : tie.Need-sets-of-requires Inv-loop μ-loop
 sets-of-requires c κs = search needs
 
@@ -53,10 +61,12 @@ add-v c = search needs
 
 loop-again : tie.Need-loop-again Inv-loop μ-loop
 loop-again c =
-    let start = c .before .before .before .before .before .before .before .before in
+    let at-try-set = c .before .before in
+    let at-loop = at-loop-of-try-set at-try-set in
+    let start = start-of-at-loop at-loop in
     let x = start .args in
-    let l = c .before .before .before .before .before .loop in
-    let t = c .before .before .try-set in (
+    let l = at-loop .loop in
+    let t = at-try-set .try-set in (
       scanned-next (x .facts) (x .d) (x .c) (x .at) (x .work .now) (start .pre) (l .v) (l .n) (t .result .count) (l .work) (l .inv .0) (omega arith)
           (t .ensures .0) (t .ensures .1),
       t .ensures .2,
@@ -65,8 +75,9 @@ loop-again c =
 
 loop-less : tie.Need-loop-less Inv-loop μ-loop
 loop-less c =
-    let x = c .before .before .before .before .before .before .before .before .args in
-    let l = c .before .before .before .before .before .loop in
+    let at-loop = at-loop-of-try-set (c .before .before) in
+    let x = start-of-at-loop at-loop .args in
+    let l = at-loop .loop in
     omega (arith, above-next (x .d) (l .v))
 
 same-length : tie.Need-same-length Inv-loop μ-loop

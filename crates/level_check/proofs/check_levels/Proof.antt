@@ -6,6 +6,20 @@ use Rattle.level_check.specs.Checking.{listed-few, members-differ, place
 use Rattle.level_check.proofs.check_levels.Statement.{statement}
 use Rattle.level_check.proofs.check_levels.Tie as tie
 
+-- ---- the stages of the function, each from a later one
+abbrev start-of-w : tie.After-w → tie.Start
+start-of-w s = s .before .before .before .before .before
+
+abbrev w-of-both-placed : tie.After-both-placed → tie.After-w
+w-of-both-placed s = s .before .before .before .before
+
+abbrev both-placed-of-else2 : tie.Else2 → tie.After-both-placed
+both-placed-of-else2 s = s .before
+
+abbrev else2-of-all-levels : tie.After-all-levels → tie.Else2
+else2-of-all-levels s = s .before .before
+
+-- ---- what is left to show
 list-members-requires : tie.Need-list-members-requires
 list-members-requires c κs = search needs
 
@@ -32,8 +46,11 @@ classes-agree-requires c κs = search needs
 
 judge-requires : tie.Need-judge-requires
 judge-requires c κs =
-    let placed = c .before .before .before .before .before .before .before in
-    (c .before .before .before .before .before .before .before .before .before .before .before .before .before .before .before .before .pre, c .before .before .before .before .all-levels .ensures, tells-true (placed .both-placed .ensures) (not-false _ (c .before .before .before .before .before .before .if2 .left)))
+    let at-all-levels = c .before .before .before .before in
+    let at-else2 = else2-of-all-levels at-all-levels in
+    let placed = both-placed-of-else2 at-else2 in
+    let at-start = start-of-w (w-of-both-placed placed) in
+    (at-start .pre, at-all-levels .all-levels .ensures, tells-true (placed .both-placed .ensures) (not-false _ (at-else2 .if2 .left)))
 
 same-length-3 : tie.Need-same-length-3
 same-length-3 c = search needs

@@ -4,6 +4,14 @@ use Rattle.level_check.specs.Checking.{agreed, too-large, verdict-differ
 use Rattle.level_check.proofs.judge.Statement.{statement}
 use Rattle.level_check.proofs.judge.Tie as tie
 
+-- ---- the stages of the function, each from a later one
+abbrev start-of-round-of : tie.After-round-of → tie.Start
+start-of-round-of s = s .before .before .before .before .before .before
+
+abbrev round-of-of-else4 : tie.Else4 → tie.After-round-of
+round-of-of-else4 s = s .before .before .before .before .before
+
+-- ---- what is left to show
 returns : tie.Need-returns
 returns c = too-large
 
@@ -24,8 +32,9 @@ returns-5 c = classes-differ
 
 returns-6 : tie.Need-returns-6
 returns-6 c =
-    let start = c .before .before .before .before .before .before .before .before .before .before .before .before in
-    agreed (start .pre .0) (start .pre .1) (c .before .if4 .left) (start .pre .2)
+    let at-else4 = c .before in
+    let start = start-of-round-of (round-of-of-else4 at-else4) in
+    agreed (start .pre .0) (start .pre .1) (at-else4 .if4 .left) (start .pre .2)
 
 pub judge-spec : {M : Type 1} → statement M
 judge-spec =

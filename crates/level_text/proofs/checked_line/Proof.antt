@@ -6,8 +6,11 @@ use Rattle.level_text.proofs.checked_line.Tie as tie
 enum-known-checked : tie.Need-enum-known-checked
 enum-known-checked c = search needs
 
-agree-line-requires : tie.Need-agree-line-requires
-agree-line-requires c κs = search needs
+slice-aggregate-two-number-line : tie.Need-slice-aggregate-two-number-line
+slice-aggregate-two-number-line c = search needs
+
+two-number-line-requires : tie.Need-two-number-line-requires
+two-number-line-requires c κs = search needs
 
 enum-told : tie.Need-enum-told
 enum-told c = search needs
@@ -67,7 +70,7 @@ same-length : tie.Need-same-length
 same-length c = search needs
 
 returns : tie.Need-returns
-returns c = rw (c .before .before .before .before .before .checked .given .1) (c .before .before .agree-line .ensures)
+returns c = rw (c .before .before .before .before .before .before .checked .given .1) (c .before .before .two-number-line .ensures)
 
 same-length-2 : tie.Need-same-length-2
 same-length-2 c = search needs
@@ -110,7 +113,8 @@ checked-line-spec =
     tie.close
     (tie.spec
     enum-known-checked
-    agree-line-requires
+    slice-aggregate-two-number-line
+    two-number-line-requires
     enum-told
     slice-aggregate-word-line
     word-line-requires

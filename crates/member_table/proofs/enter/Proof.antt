@@ -12,6 +12,17 @@ use borrow.Author.Needs.{needs}
 use Rattle.member_table.proofs.enter.Statement.{statement}
 use Rattle.member_table.proofs.enter.Tie as tie
 
+-- ---- the stages of the function, each from a later one
+abbrev start-of-place : tie.After-place → tie.Start
+start-of-place s = s .before .before .before
+
+abbrev place-of-else1 : tie.Else1 → tie.After-place
+place-of-else1 s = s .before
+
+abbrev else1-of-put-in : tie.After-put-in → tie.Else1
+else1-of-put-in s = s .before .before .before
+
+-- ---- what is left to show
 place-requires : tie.Need-place-requires
 place-requires c κs = search needs
 
@@ -57,14 +68,17 @@ same-length-3 c = search needs
 
 returns-3 : tie.Need-returns-3
 returns-3 c =
-    let b = c .before .before .before .before .before .before .before .before .before in
+    let at-put-in = c .before .before in
+    let at-else1 = else1-of-put-in at-put-in in
+    let at-place = place-of-else1 at-else1 in
+    let b = start-of-place at-place in
     let g = b .args in
     let w : List ℕ = g .work .now in
     let p : Configuration = standsFor (g .x) in
-    let r = c .before .before .before .before .before .before .place in
-    let i = c .before .before .put-in in
+    let r = at-place .place in
+    let i = at-put-in .put-in in
     let q : Placed w (g .n) p false (r .result .at) =
-    subst (λ (f : Bool). Placed w (g .n) p f (r .result .at)) (c .before .before .before .before .before .if1 .left) (r .ensures) in
+    subst (λ (f : Bool). Placed w (g .n) p f (r .result .at)) (at-else1 .if1 .left) (r .ensures) in
     entered-new w (i .last .0) (g .n) (r .result .at) (g .x) (b .pre .0) (i .ensures) (g .limit) (omega arith) (b .pre .3) (b .pre .1) q
 
 pub enter-spec : {M : Type 1} → statement M

@@ -5,12 +5,12 @@ use Rattle.packing.specs.Packing.{standsFor}
 use Rattle.member_table.specs.MemberSearch.{Halved, halved-first, found-side, low-side, high-side, placed-none}
 use borrow.Author.Needs.{needs}
 use native.Mathlib.Omega.{arith}
-use Prim.Native.Nat.{ℕ, _+_, _-_, _/_, _≤_}
+use Prim.Native.Nat.{ℕ, _+_, _-_, _/_}
 use Rattle.member_table.proofs.place.Statement.{statement}
 use Rattle.member_table.proofs.place.Tie as tie
 
 abbrev Inv-loop : tie.InvT-loop
-Inv-loop w n x low₀ high₀ low high = (low ≤ high) × (high ≤ n) × Halved w n (standsFor x) low high
+Inv-loop w n x low₀ high₀ low high = Halved w n (standsFor x) low high
 
 abbrev μ-loop : tie.MeasureT-loop
 μ-loop w n x low₀ high₀ low high = high - low
@@ -18,7 +18,7 @@ abbrev μ-loop : tie.MeasureT-loop
 loop-holds : tie.Need-loop-holds Inv-loop μ-loop
 loop-holds c =
     let g = c .before .args in
-    (search needs, search needs, halved-first (g .work .now) (g .n) (standsFor (g .x)))
+    halved-first (g .work .now) (g .n) (standsFor (g .x))
 
 sub-mid : tie.Need-sub-mid Inv-loop μ-loop
 sub-mid c = search needs
@@ -52,12 +52,9 @@ loop-again c =
     let w : List ℕ = g .work .now in
     let p : Configuration = standsFor (g .x) in
     let l = c .before .before .before .before .loop in
-    let mid : ℕ = l .low + (l .high - l .low) / 2 in (
-      omega arith,
-      omega arith,
-      low-side w (g .n) p mid (c .before .before .side .result) (c .before .before .side .ensures) (b .pre .0)
-          (l .low) (l .high) (l .inv .2) (omega arith) (c .if2 .taken),
-    )
+    let mid : ℕ = l .low + (l .high - l .low) / 2 in
+    low-side w (g .n) p mid (c .before .before .side .result) (c .before .before .side .ensures) (b .pre .0)
+    (l .low) (l .high) (l .inv) (omega arith) (omega arith) (c .if2 .taken)
 
 loop-less-2 : tie.Need-loop-less-2 Inv-loop μ-loop
 loop-less-2 c = search needs
@@ -69,13 +66,9 @@ loop-again-2 c =
     let w : List ℕ = g .work .now in
     let p : Configuration = standsFor (g .x) in
     let l = c .before .before .before .before .loop in
-    let mid : ℕ = l .low + (l .high - l .low) / 2 in (
-      omega arith,
-      omega arith,
-      high-side w (g .n) p mid (c .before .before .side .result) (c .before .before .side .ensures) (b .pre .0)
-          (l .low) (l .high) (l .inv .2) (omega arith) (omega arith)
-          (c .if2 .left) (c .before .if1 .left),
-    )
+    let mid : ℕ = l .low + (l .high - l .low) / 2 in
+    high-side w (g .n) p mid (c .before .before .side .result) (c .before .before .side .ensures) (b .pre .0)
+    (l .low) (l .high) (l .inv) (omega arith) (omega arith) (c .if2 .left) (c .before .if1 .left)
 
 returns-2 : tie.Need-returns-2 Inv-loop μ-loop
 returns-2 c =
@@ -84,7 +77,7 @@ returns-2 c =
     let w : List ℕ = g .work .now in
     let p : Configuration = standsFor (g .x) in
     let l = c .before .loop in
-    placed-none w (g .n) p (l .low) (l .high) (l .inv .2) (omega arith)
+    placed-none w (g .n) p (l .low) (l .high) (l .inv) (omega arith)
 
 pub place-spec : {M : Type 1} → statement M
 place-spec =

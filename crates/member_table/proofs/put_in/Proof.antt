@@ -9,6 +9,14 @@ use borrow.Author.Needs.{needs}
 use Rattle.member_table.proofs.put_in.Statement.{statement}
 use Rattle.member_table.proofs.put_in.Tie as tie
 
+-- ---- the stages of the function, each from a later one
+abbrev start-of-shift-up : tie.After-shift-up → tie.Start
+start-of-shift-up s = s .before .before .before
+
+abbrev shift-up-of-put-three : tie.After-put-three → tie.After-shift-up
+shift-up-of-put-three s = s .before .before .before .before
+
+-- ---- what is left to show
 add-shift-up : tie.Need-add-shift-up
 add-shift-up c = search needs
 
@@ -38,16 +46,20 @@ put-three-requires c κs = simp length-set (omega arith)
 
 same-length : tie.Need-same-length
 same-length c =
-    let g = c .before .before .before .before .before .before .before .before .before .args in
-    let u = c .before .before .before .before .before .before .shift-up in
-    c .before .before .put-three .kept .0 ∙ length-set (u .last .0) (tableIds + g .at) (g .n) ∙ u .kept .0
+    let at-put-three = c .before .before in
+    let at-shift-up = shift-up-of-put-three at-put-three in
+    let g = start-of-shift-up at-shift-up .args in
+    let u = at-shift-up .shift-up in
+    at-put-three .put-three .kept .0 ∙ length-set (u .last .0) (tableIds + g .at) (g .n) ∙ u .kept .0
 
 returns : tie.Need-returns
 returns c =
-    let b = c .before .before .before .before .before .before .before .before .before in
+    let at-put-three = c .before .before in
+    let at-shift-up = shift-up-of-put-three at-put-three in
+    let b = start-of-shift-up at-shift-up in
     let g = b .args in
-    let u = c .before .before .before .before .before .before .shift-up in
-    rw (c .before .before .put-three .ensures)
+    let u = at-shift-up .shift-up in
+    rw (at-put-three .put-three .ensures)
     (put-in (g .work .now) (u .last .0) (g .n) (g .at) (g .x) (u .ensures) (b .pre .0) (b .pre .1) (b .pre .2))
 
 pub put-in-spec : {M : Type 1} → statement M

@@ -10,6 +10,14 @@ use borrow.Author.Needs.{needs}
 use Rattle.move_entry.proofs.note.Statement.{statement}
 use Rattle.move_entry.proofs.note.Tie as tie
 
+-- ---- the stages of the function, each from a later one
+abbrev e-of-enter-number : tie.After-enter-number → tie.After-e
+e-of-enter-number s = s .before .before .before .before .before
+
+abbrev enter-number-of-p : tie.After-p → tie.After-enter-number
+enter-number-of-p s = s .before .before .before .before
+
+-- ---- what is left to show
 enter-at-requires : tie.Need-enter-at-requires
 enter-at-requires c κs = search needs
 
@@ -85,13 +93,14 @@ same-length-2 c = search needs
 
 returns-2 : tie.Need-returns-2
 returns-2 c =
-    let d = c .before .before .before .before .before .before .before .before .before in
+    let at-enter-number = c .before .before .before .before in
+    let d = e-of-enter-number at-enter-number in
     let k = d .e .given in
     let r = d .before .before .before .before .enter-at in
     let b = d .before .before .before .before .before .before .before in
     let g = b .args in
     let e = entry-member (k .1) (r .ensures .0) in
-    let n = c .before .before .before .before .enter-number in
+    let n = at-enter-number .enter-number in
     no-room-move (g .work .now) (r .last .0) (n .last .0) (g .first) (g .s) (g .l) (g .label) (standsFor (g .x))
     (k .0 .0) (k .0 .1 .0) (k .0 .1 .1 .0) (b .pre .0) e (r .ensures .1) (put-full (c .enum-told2 .given .1) (n .ensures))
 
@@ -110,14 +119,16 @@ same-length-3 c = search needs
 
 returns-3 : tie.Need-returns-3
 returns-3 c =
-    let d = c .before .before .before .before .before .before .before .before .before .before .before in
+    let at-p = c .before .before in
+    let at-enter-number = enter-number-of-p at-p in
+    let d = e-of-enter-number at-enter-number in
     let k = d .e .given in
     let r = d .before .before .before .before .enter-at in
     let b = d .before .before .before .before .before .before .before in
     let g = b .args in
     let e = entry-member (k .1) (r .ensures .0) in
-    let n = c .before .before .before .before .before .before .enter-number in
-    let m = c .before .before .p .given in
+    let n = at-enter-number .enter-number in
+    let m = at-p .p .given in
     noted-on (g .work .now) (r .last .0) (n .last .0) (g .first) (g .s) (g .l) (g .label) (standsFor (g .x))
     (k .0 .0) (k .0 .1 .0) (k .0 .1 .1 .0) (c .lowest .result) (b .pre .0) e (r .ensures .1)
     (c .lowest .ensures) (m .0 .0) (put-until (m .1) (n .ensures))

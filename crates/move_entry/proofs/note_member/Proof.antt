@@ -6,6 +6,14 @@ use borrow.Author.Needs.{needs}
 use Rattle.move_entry.proofs.note_member.Statement.{statement}
 use Rattle.move_entry.proofs.note_member.Tie as tie
 
+-- ---- the stages of the function, each from a later one
+abbrev start-of-enter-at : tie.After-enter-at → tie.Start
+start-of-enter-at s = s .before .before .before
+
+abbrev enter-at-of-found : tie.After-found → tie.After-enter-at
+enter-at-of-found s = s .before .before .before .before
+
+-- ---- what is left to show
 enter-at-requires : tie.Need-enter-at-requires
 enter-at-requires c κs = search needs
 
@@ -32,10 +40,12 @@ same-length-2 c = search needs
 
 returns-2 : tie.Need-returns-2
 returns-2 c =
-    let b = c .before .before .before .before .before .before .before .before .before in
+    let at-found = c .before .before in
+    let at-enter-at = enter-at-of-found at-found in
+    let b = start-of-enter-at at-enter-at in
     let g = b .args in
-    let r = c .before .before .before .before .before .before .enter-at in
-    let k = c .before .before .found .given in
+    let r = at-enter-at .enter-at in
+    let k = at-found .found .given in
     entered-on (g .work .now) (r .last .0) (g .first) (g .s) (g .l) (standsFor (g .x))
     (k .0 .0) (k .0 .1 .0) (k .0 .1 .1 .0) (c .lowest .result) (b .pre .0)
     (entry-member (k .1) (r .ensures .0)) (r .ensures .1) (c .lowest .ensures)

@@ -6,6 +6,23 @@ use Rattle.node_marks.specs.MarkLaws.{never-full, forgotten-kept, entere
 use Rattle.node_marks.proofs.mark.Statement.{statement}
 use Rattle.node_marks.proofs.mark.Tie as tie
 
+-- ---- the stages of the function, each from a later one
+abbrev start-of-enter-at : tie.After-enter-at → tie.Start
+start-of-enter-at s = s .before .before .before
+
+abbrev enter-at-of-r : tie.After-r → tie.After-enter-at
+enter-at-of-r s = s .before .before .before .before
+
+abbrev enter-at-of-enum-told : tie.After-enum-told → tie.After-enter-at
+enter-at-of-enum-told s = s .before .before .before .before
+
+abbrev enum-told-of-enter-at2 : tie.After-enter-at2 → tie.After-enum-told
+enum-told-of-enter-at2 s = s .before .before
+
+abbrev enter-at2-of-again : tie.After-again → tie.After-enter-at2
+enter-at2-of-again s = s .before .before .before .before
+
+-- ---- what is left to show
 enter-at-requires : tie.Need-enter-at-requires
 enter-at-requires c κs = search needs
 
@@ -17,9 +34,11 @@ enum-told c = search needs
 
 enter-at-requires-2 : tie.Need-enter-at-requires-2
 enter-at-requires-2 c κs =
-    let r = c .before .before .before .before .before .enter-at in
-    let s = c .before .before .before .before .before .before .before .before in
-    let f = entry-full (c .before .enum-told .given .1) (r .ensures .0) in
+    let at-enum-told = c .before in
+    let at-enter-at = enter-at-of-enum-told at-enum-told in
+    let s = start-of-enter-at at-enter-at in
+    let r = at-enter-at .enter-at in
+    let f = entry-full (at-enum-told .enum-told .given .1) (r .ensures .0) in
     (forgotten-kept (s .pre .0) (f .1), s .pre .1, omega arith, omega arith)
 
 enum-known-again : tie.Need-enum-known-again
@@ -41,11 +60,15 @@ same-length-2 c = search needs
 
 returns-2 : tie.Need-returns-2
 returns-2 c =
-    let s = c .before .before .before .before .before .before .before .before .before .before .before .before .before .before in
-    let r = c .before .before .before .before .before .before .before .before .before .before .before .enter-at in
-    let f = entry-full (c .before .before .before .before .before .before .before .enum-told .given .1) (r .ensures .0) in
-    let n = c .before .before .before .before .before .enter-at2 in
-    forgotten-marks (f .2) (forgotten-kept (s .pre .0) (f .1)) (entry-member (c .before .again .given .1) (n .ensures .0))
+    let at-again = c .before in
+    let at-enter-at2 = enter-at2-of-again at-again in
+    let at-enum-told = enum-told-of-enter-at2 at-enter-at2 in
+    let at-enter-at = enter-at-of-enum-told at-enum-told in
+    let s = start-of-enter-at at-enter-at in
+    let r = at-enter-at .enter-at in
+    let f = entry-full (at-enum-told .enum-told .given .1) (r .ensures .0) in
+    let n = at-enter-at2 .enter-at2 in
+    forgotten-marks (f .2) (forgotten-kept (s .pre .0) (f .1)) (entry-member (at-again .again .given .1) (n .ensures .0))
     (r .ensures .1) (n .ensures .1)
 
 same-length-3 : tie.Need-same-length-3
@@ -53,9 +76,11 @@ same-length-3 c = search needs
 
 returns-3 : tie.Need-returns-3
 returns-3 c =
-    let s = c .before .before .before .before .before .before .before .before in
-    let r = c .before .before .before .before .before .enter-at in
-    entered-marks (s .pre .0) (entry-member (c .before .r .given .1) (r .ensures .0)) (r .ensures .1)
+    let at-r = c .before in
+    let at-enter-at = enter-at-of-r at-r in
+    let s = start-of-enter-at at-enter-at in
+    let r = at-enter-at .enter-at in
+    entered-marks (s .pre .0) (entry-member (at-r .r .given .1) (r .ensures .0)) (r .ensures .1)
 
 pub mark-spec : {M : Type 1} → statement M
 mark-spec =

@@ -2,7 +2,7 @@
 use lib.ListN.{take}
 use native.Mathlib.Omega.{arith}
 use borrow.Author.Needs.{needs}
-use Rattle.nodes_to_visit.specs.ThreadsBeside.{entry-stored}
+use Rattle.nodes_to_visit.specs.StoredEntry.{entry-stored}
 use Rattle.nodes_to_visit.proofs.push.Statement.{statement}
 use Rattle.nodes_to_visit.proofs.push.Tie as tie
 

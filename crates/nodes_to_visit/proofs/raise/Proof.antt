@@ -1,21 +1,21 @@
 -- `raise` goes from the highest number down, so that each is read before its place is stored to.
-use Prim.Native.Nat.{ℕ, _-_, _≤_}
+use Prim.Native.Nat.{ℕ, _+_, _-_, _≤_}
 use mathlib.Core.Path.{_≡_, refl, subst}
 use native.Mathlib.Omega.{arith}
 use borrow.Author.Needs.{needs}
 use lib.ListN.{length}
-use Rattle.nodes_to_visit.specs.EntryPlaces.{RaisedThree, raised-none, raised-next}
+use Rattle.list_laws.specs.RaisedNumbers.{Raised, raised-none, raised-next}
 use Rattle.nodes_to_visit.proofs.raise.Statement.{statement}
 use Rattle.nodes_to_visit.proofs.raise.Tie as tie
 
 abbrev Inv-loop : tie.InvT-loop
-Inv-loop w₀ from to i₀ w i = (from ≤ i) × (i ≤ to) × (length w ≡ length w₀) × RaisedThree w₀ i to w
+Inv-loop w₀ from to i₀ w i = (from ≤ i) × (i ≤ to) × (length w ≡ length w₀) × Raised 3 w₀ i to w
 
 abbrev μ-loop : tie.MeasureT-loop
 μ-loop w₀ from to i₀ w i = i - from
 
 loop-holds : tie.Need-loop-holds Inv-loop μ-loop
-loop-holds c = (omega arith, omega arith, refl, raised-none (c .args .work .now) (c .args .to))
+loop-holds c = (omega arith, omega arith, refl, raised-none 3 (c .args .work .now) (c .args .to))
 
 sub-work : tie.Need-sub-work Inv-loop μ-loop
 sub-work c = search needs
@@ -45,7 +45,7 @@ loop-again : tie.Need-loop-again Inv-loop μ-loop
 loop-again c =
     let b = c .before .before .before in
     let l = c .before .before .loop in
-    let r = raised-next (b .args .work .now) (l .i) (b .args .to) (l .work) (l .inv .3) (omega arith) (omega arith) (omega arith) in
+    let r = raised-next 3 (b .args .work .now) (l .i) (b .args .to) (l .i + 2) (l .work) (l .inv .3) (omega arith) (omega arith) (omega arith) (omega arith) in
     (omega arith, omega arith, r .long, r)
 
 same-length : tie.Need-same-length Inv-loop μ-loop
@@ -56,7 +56,7 @@ returns c =
     let b = c .before .before in
     let l = c .before .loop in
     let e : l .i ≡ b .args .from = omega arith in
-    subst (λ (z : ℕ). RaisedThree (b .args .work .now) z (b .args .to) (l .work)) e (l .inv .3)
+    subst (λ (z : ℕ). Raised 3 (b .args .work .now) z (b .args .to) (l .work)) e (l .inv .3)
 
 pub raise-spec : {M : Type 1} → statement M
 raise-spec =

@@ -5,6 +5,17 @@ use Rattle.nodes_to_visit.specs.NodesToVisitLaws.{placed-same}
 use Rattle.nodes_to_visit.proofs.side.Statement.{statement}
 use Rattle.nodes_to_visit.proofs.side.Tie as tie
 
+-- ---- the stages of the function, each from a later one
+abbrev start-of-else1 : tie.Else1 → tie.Start
+start-of-else1 s = s .before .before .before
+
+abbrev else1-of-else2 : tie.Else2 → tie.Else1
+else1-of-else2 s = s .before .before .before
+
+abbrev else2-of-then3 : tie.Then3 → tie.Else2
+else2-of-then3 s = s .before .before .before
+
+-- ---- what is left to show
 returns : tie.Need-returns
 returns c = (λ e. absurd (omega arith), λ e. absurd (omega arith))
 
@@ -13,7 +24,8 @@ returns-2 c = (λ e. absurd (omega arith), λ e. absurd (omega arith))
 
 returns-3 : tie.Need-returns-3
 returns-3 c =
-    let g = c .before .before .before .before .before .before .before .before .before .args in (
+    let at-else1 = else1-of-else2 (else2-of-then3 c) in
+    let g = start-of-else1 at-else1 .args in (
       λ e. placed-same (g .x .a) (g .x .b) (g .x .c) (g .y .a) (g .y .b) (g .y .c) (omega arith) (omega arith) (omega arith),
       λ e. absurd (omega arith),
     )

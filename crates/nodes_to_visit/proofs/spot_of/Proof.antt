@@ -4,7 +4,7 @@ use mathlib.Core.Path.{_≡_, sym, _∙_}
 use native.Mathlib.Omega.{arith}
 use borrow.Author.Needs.{needs}
 use Rattle.sheet_laws.specs.Ranks.{rankOf}
-use Rattle.nodes_to_visit.specs.NodesToVisit.{nodeFor}
+use Rattle.threads_beside.specs.ThreadsBeside.{nodeFor}
 use Rattle.nodes_to_visit.specs.EntryPlaces.{LowFrom, low-next, spot-there, spot-new}
 use Rattle.nodes_to_visit.proofs.spot_of.Statement.{statement}
 use Rattle.nodes_to_visit.proofs.spot_of.Tie as tie

@@ -7,7 +7,7 @@ use borrow.Author.Needs.{needs}
 use Rattle.text.specs.StoredText.{stored-length, stored-then}
 use Rattle.text.specs.Slices.{Stored}
 use Rattle.report_bytes.specs.BytesStored.{joined, joined-room, stored-none, stored-next}
-use Rattle.report_bytes.specs.ReportLayout.{memberBytesAt}
+use Rattle.report_records.specs.RecordLayout.{memberBytesAt}
 use Rattle.report_bytes.proofs.put_members.Statement.{statement}
 use Rattle.report_bytes.proofs.put_members.Tie as tie
 
@@ -17,6 +17,17 @@ Inv-loop w n out₀ at₀ i₀ out at i = (i ≤ n) × Stored out₀ at₀ (join
 abbrev μ-loop : tie.MeasureT-loop
 μ-loop w n out₀ at₀ i₀ out at i = n - i
 
+-- ---- the stages of the function, each from a later one
+abbrev start-of-put-word : tie.After-put-word Inv-loop μ-loop → tie.Start Inv-loop μ-loop
+start-of-put-word s = s .before .before .before .before
+
+abbrev put-word-of-at-loop : tie.At-loop Inv-loop μ-loop → tie.After-put-word Inv-loop μ-loop
+put-word-of-at-loop s = s .before .before .before
+
+abbrev at-loop-of-put-member : tie.After-put-member Inv-loop μ-loop → tie.At-loop Inv-loop μ-loop
+at-loop-of-put-member s = s .before .before .before
+
+-- ---- what is left to show
 cast-put-word : tie.Need-cast-put-word Inv-loop μ-loop
 cast-put-word c = search needs
 
@@ -31,10 +42,12 @@ loop-holds c =
 
 put-member-requires : tie.Need-put-member-requires Inv-loop μ-loop
 put-member-requires c κs =
-    let start = c .before .before .before .before .before .before .before .before .before in
-    let count = c .before .before .before .before .before .put-word .ensures in
-    let i : ℕ = c .before .before .loop .i in
-    let s = c .before .before .loop .inv .1 in (
+    let at-loop = c .before .before in
+    let at-put-word = put-word-of-at-loop at-loop in
+    let start = start-of-put-word at-put-word in
+    let count = at-put-word .put-word .ensures in
+    let i : ℕ = at-loop .loop .i in
+    let s = at-loop .loop .inv .1 in (
       start .pre .0 .long,
       omega (arith, start .pre .0 .few),
       start .pre .0 .packed i (search needs),
@@ -57,19 +70,21 @@ loop-less c = search needs
 
 loop-again : tie.Need-loop-again Inv-loop μ-loop
 loop-again c =
-    let at-loop = c .before .before .before .before .before in
-    let start = at-loop .before .before .before .before .before .before .before in
+    let at-put-member = c .before .before in
+    let at-loop = at-loop-of-put-member at-put-member in
+    let start = start-of-put-word (put-word-of-at-loop at-loop) in
     let w : List ℕ = start .args .work .now in
-    (search needs, stored-next (memberBytesAt w) (at-loop .loop .i) (at-loop .loop .inv .1) (c .before .before .put-member .ensures))
+    (search needs, stored-next (memberBytesAt w) (at-loop .loop .i) (at-loop .loop .inv .1) (at-put-member .put-member .ensures))
 
 same-length : tie.Need-same-length Inv-loop μ-loop
 same-length c = stored-length (c .before .loop .inv .1) ∙ stored-length (c .before .before .before .before .put-word .ensures)
 
 returns : tie.Need-returns Inv-loop μ-loop
 returns c =
-    let start = c .before .before .before .before .before .before .before .before in
+    let at-put-word = put-word-of-at-loop (c .before) in
+    let start = start-of-put-word at-put-word in
     let w : List ℕ = start .args .work .now in
-    let count = c .before .before .before .before .put-word in
+    let count = at-put-word .put-word in
     let at-loop = c .before .loop in
     let e : at-loop .i ≡ start .args .n = omega arith in
     let s =

@@ -9,6 +9,14 @@ use Rattle.report_bytes.specs.ReportLayout.{membersPart, trailPart}
 use Rattle.report_bytes.proofs.put_report.Statement.{statement}
 use Rattle.report_bytes.proofs.put_report.Tie as tie
 
+-- ---- the stages of the function, each from a later one
+abbrev start-of-put-members : tie.After-put-members → tie.Start
+start-of-put-members s = s .before .before .before .before
+
+abbrev put-members-of-put-trail : tie.After-put-trail → tie.After-put-members
+put-members-of-put-trail s = s .before .before .before .before
+
+-- ---- what is left to show
 put-members-requires : tie.Need-put-members-requires
 put-members-requires c κs =
     let start = c .before .before .before in
@@ -50,10 +58,12 @@ same-length c = search needs
 
 returns : tie.Need-returns
 returns c =
-    let start = c .before .before .before .before .before .before .before .before .before .before in
+    let at-put-trail = c .before .before in
+    let at-put-members = put-members-of-put-trail at-put-trail in
+    let start = start-of-put-members at-put-members in
     let w : List ℕ = start .args .work .now in
-    let members = c .before .before .before .before .before .before .put-members in
-    let trail = c .before .before .put-trail in
+    let members = at-put-members .put-members in
+    let trail = at-put-trail .put-trail in
     lent-after (start .args .out .now) (membersPart w (start .args .n)) (members .last .1 .1 .0) (trailPart w (start .args .k))
     (trail .last .1 .1 .0) (members .result) (members .ensures) (start .pre .1) (trail .ensures)
 

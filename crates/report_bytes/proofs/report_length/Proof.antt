@@ -6,9 +6,9 @@ use native.Mathlib.Omega.{arith}
 use lib.ListN.{length}
 use borrow.Author.Needs.{needs}
 use Rattle.packing.specs.PackingLaws.{packed-count}
-use Rattle.report_bytes.specs.ReportInSlice.{PackedAt}
-use Rattle.report_bytes.specs.BytesStored.{joined, joined-none, joined-length, member-length, held-length}
-use Rattle.report_bytes.specs.ReportLayout.{memberBytesAt}
+use Rattle.report_records.specs.RecordLayout.{PackedAt, memberBytesAt}
+use Rattle.report_records.specs.RecordsStored.{member-length}
+use Rattle.report_bytes.specs.BytesStored.{joined, joined-none, joined-length, held-length}
 use Rattle.report_bytes.proofs.report_length.Statement.{statement}
 use Rattle.report_bytes.proofs.report_length.Tie as tie
 

@@ -7,8 +7,8 @@ use Rattle.printed_lines.specs.Lines.{field}
 use Rattle.sheets.specs.SheetBytes.{word}
 use Rattle.comparison.specs.Print.{threadsText}
 use Rattle.text.specs.StoredText.{stored-then}
-use Rattle.report_text.specs.AnswerText.{threadsIn}
-use Rattle.report_text.specs.TextLaws.{position-short, stored-as}
+use Rattle.report_fields.specs.AnswerFields.{threadsIn}
+use Rattle.report_fields.specs.TextLaws.{position-short, stored-as}
 use Rattle.report_text.proofs.member_line.Statement.{statement}
 use Rattle.report_text.proofs.member_line.Tie as tie
 

@@ -7,8 +7,9 @@ use mathlib.Core.List.{_++_}
 use Rattle.text.specs.Slices.{Stored}
 use Rattle.text.specs.StoredText.{stored-then, stored-length}
 use Rattle.report_text.specs.Runs.{place-none, place-next, lines-none, lines-next}
-use Rattle.report_text.specs.AnswerText.{threadCount, memberEnd, memberText, membersEnd, membersText}
-use Rattle.report_text.specs.TextLaws.{stored-none, stored-as}
+use Rattle.report_fields.specs.AnswerFields.{threadCount}
+use Rattle.report_text.specs.AnswerText.{memberEnd, memberText, membersEnd, membersText}
+use Rattle.report_fields.specs.TextLaws.{stored-none, stored-as}
 use Rattle.report_text.proofs.member_lines.Statement.{statement}
 use Rattle.report_text.proofs.member_lines.Tie as tie
 
@@ -19,6 +20,14 @@ Inv-loop s n out₀ at from₀ next₀ i₀ out from next i =
 abbrev μ-loop : tie.MeasureT-loop
 μ-loop s n out₀ at from₀ next₀ i₀ out from next i = n - i
 
+-- ---- the stages of the function, each from a later one
+abbrev start-of-at-loop : tie.At-loop Inv-loop μ-loop → tie.Start Inv-loop μ-loop
+start-of-at-loop s = s .before .before .before
+
+abbrev at-loop-of-member-line : tie.After-member-line Inv-loop μ-loop → tie.At-loop Inv-loop μ-loop
+at-loop-of-member-line s = s .before .before .before
+
+-- ---- what is left to show
 loop-holds : tie.Need-loop-holds Inv-loop μ-loop
 loop-holds c =
     let args = c .before .before .args in (
@@ -49,10 +58,11 @@ loop-less c = search needs
 
 loop-again : tie.Need-loop-again Inv-loop μ-loop
 loop-again c =
-    let args = c .before .before .before .before .before .before .before .before .before .args in
-    let at-loop = c .before .before .before .before .before .before .loop in
+    let at-member-line = c .before .before .before in
+    let args = (start-of-at-loop (at-loop-of-member-line at-member-line)) .args in
+    let at-loop = (at-loop-of-member-line at-member-line) .loop in
     let inv = at-loop .inv in
-    let e = c .before .before .before .member-line .ensures in
+    let e = at-member-line .member-line .ensures in
     let s = args .s .now in
     let i = at-loop .i in
     let n = c .thread-count .ensures in

@@ -2,7 +2,7 @@
 use borrow.Author.Needs.{needs}
 use native.Mathlib.Omega.{arith}
 use Rattle.text.specs.StoredText.{stored-then}
-use Rattle.report_text.specs.TextLaws.{stored-as}
+use Rattle.report_fields.specs.TextLaws.{stored-as}
 use Rattle.report_text.specs.ReportTextLaws.{text-parts, report-written}
 use Rattle.report_text.proofs.report_text.Statement.{statement}
 use Rattle.report_text.proofs.report_text.Tie as tie

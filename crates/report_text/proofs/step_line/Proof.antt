@@ -3,8 +3,8 @@ use mathlib.Core.Path.{ap, _∙_}
 use mathlib.Core.List.{[], _∷_}
 use Prim.Native.Nat.{ℕ}
 use Rattle.text.specs.StoredText.{stored-then}
-use Rattle.report_text.specs.AnswerText.{letterOf}
-use Rattle.report_text.specs.TextLaws.{stored-as}
+use Rattle.report_fields.specs.AnswerFields.{letterOf}
+use Rattle.report_fields.specs.TextLaws.{stored-as}
 use borrow.Author.Needs.{needs}
 use native.Mathlib.Omega.{arith}
 use Rattle.report_text.proofs.step_line.Statement.{statement}

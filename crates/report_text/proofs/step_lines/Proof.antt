@@ -8,7 +8,7 @@ use Rattle.text.specs.Slices.{Stored}
 use Rattle.text.specs.StoredText.{stored-then, stored-length}
 use Rattle.report_text.specs.Runs.{placeAfter, place-none, place-next, lines-none, lines-next}
 use Rattle.report_text.specs.AnswerText.{stepText, stepEnd, stepsText}
-use Rattle.report_text.specs.TextLaws.{stored-none, stored-as}
+use Rattle.report_fields.specs.TextLaws.{stored-none, stored-as}
 use Rattle.report_text.proofs.step_lines.Statement.{statement}
 use Rattle.report_text.proofs.step_lines.Tie as tie
 
@@ -20,6 +20,14 @@ Inv-loop s start n out₀ at from₀ next₀ i₀ out from next i =
 abbrev μ-loop : tie.MeasureT-loop
 μ-loop s start n out₀ at from₀ next₀ i₀ out from next i = n - i
 
+-- ---- the stages of the function, each from a later one
+abbrev start-of-at-loop : tie.At-loop Inv-loop μ-loop → tie.Start Inv-loop μ-loop
+start-of-at-loop s = s .before .before .before
+
+abbrev at-loop-of-step-line : tie.After-step-line Inv-loop μ-loop → tie.At-loop Inv-loop μ-loop
+at-loop-of-step-line s = s .before .before .before
+
+-- ---- what is left to show
 loop-holds : tie.Need-loop-holds Inv-loop μ-loop
 loop-holds c =
     let args = c .before .before .args in (
@@ -44,10 +52,11 @@ loop-less c = search needs
 
 loop-again : tie.Need-loop-again Inv-loop μ-loop
 loop-again c =
-    let args = c .before .before .before .before .before .before .before .before .args in
-    let at-loop = c .before .before .before .before .before .loop in
+    let at-step-line = c .before .before in
+    let args = (start-of-at-loop (at-loop-of-step-line at-step-line)) .args in
+    let at-loop = (at-loop-of-step-line at-step-line) .loop in
     let inv = at-loop .inv in
-    let e = c .before .before .step-line .ensures in (
+    let e = at-step-line .step-line .ensures in (
       search needs,
       ap stepEnd (inv .1) ∙ sym (place-next stepEnd (args .start) (at-loop .i)),
       omega arith,

@@ -4,7 +4,7 @@ use mathlib.Core.Bool.{Bool}
 use mathlib.Core.List.{[], _∷_}
 use Rattle.printed_lines.specs.Lines.{line}
 use Rattle.report_text.specs.AnswerText.{wordOf}
-use Rattle.report_text.specs.TextLaws.{stored-as}
+use Rattle.report_fields.specs.TextLaws.{stored-as}
 use native.Mathlib.Omega.{arith}
 use borrow.Author.Needs.{needs}
 use Rattle.report_text.proofs.verdict_line.Statement.{statement}

@@ -15,6 +15,20 @@ Inv-loop w₀ sets₀ width n list k j₀ w sets j =
 abbrev μ-loop : tie.MeasureT-loop
 μ-loop w₀ sets₀ width n list k j₀ w sets j = k - j
 
+-- ---- the stages of the function, each from a later one
+abbrev start-of-at-loop : tie.At-loop Inv-loop μ-loop → tie.Start Inv-loop μ-loop
+start-of-at-loop s = s .before .before .before
+
+abbrev at-loop-of-in-loop : tie.In-loop Inv-loop μ-loop → tie.At-loop Inv-loop μ-loop
+at-loop-of-in-loop s = s .before
+
+abbrev in-loop-of-line-member : tie.After-line-member Inv-loop μ-loop → tie.In-loop Inv-loop μ-loop
+in-loop-of-line-member s = s .before .before .before
+
+abbrev line-member-of-watch-member : tie.After-watch-member Inv-loop μ-loop → tie.After-line-member Inv-loop μ-loop
+line-member-of-watch-member s = s .before .before .before .before .before
+
+-- ---- what is left to show
 loop-holds : tie.Need-loop-holds Inv-loop μ-loop
 loop-holds c =
     let b = c .before .before in
@@ -41,11 +55,14 @@ line-member-requires c κs =
 
 watch-member-requires : tie.Need-watch-member-requires Inv-loop μ-loop
 watch-member-requires c κs =
-    let b = c .before .before .before .before .before .before .before .before .before .before .before in
+    let at-line-member = c .before .before .before .before in
+    let at-in-loop = in-loop-of-line-member at-line-member in
+    let at-loop = at-loop-of-in-loop at-in-loop in
+    let b = start-of-at-loop at-loop in
     let g = b .args in
-    let l = c .before .before .before .before .before .before .before .before .loop in
-    let h = b .pre .2 (l .j) (c .before .before .before .before .before .before .before .loop-test .taken) in
-    let m = c .before .before .before .before .line-member in (
+    let l = at-loop .loop in
+    let h = b .pre .2 (l .j) (at-in-loop .loop-test .taken) in
+    let m = at-line-member .line-member in (
       next-shape (g .n) (l .work) (l .inv .3 .shape) (getD (g .list .now) (l .j) 0) h (m .last .0) (m .ensures),
       h,
       omega (arith, h, b .pre .3),
@@ -61,12 +78,16 @@ loop-less c = search needs
 
 loop-again : tie.Need-loop-again Inv-loop μ-loop
 loop-again c =
-    let b = c .before .before .before .before .before .before .before .before .before .before .before .before .before .before in
+    let at-watch-member = c .before .before in
+    let at-line-member = line-member-of-watch-member at-watch-member in
+    let at-in-loop = in-loop-of-line-member at-line-member in
+    let at-loop = at-loop-of-in-loop at-in-loop in
+    let b = start-of-at-loop at-loop in
     let g = b .args in
-    let l = c .before .before .before .before .before .before .before .before .before .before .before .loop in
-    let h = b .pre .2 (l .j) (c .before .before .before .before .before .before .before .before .before .before .loop-test .taken) in
-    let m = c .before .before .before .before .before .before .before .line-member in
-    let t = c .before .before .watch-member in
+    let l = at-loop .loop in
+    let h = b .pre .2 (l .j) (at-in-loop .loop-test .taken) in
+    let m = at-line-member .line-member in
+    let t = at-watch-member .watch-member in
     let x = set-lined-next (g .work .now) (g .sets .now) (g .width) (g .n) (g .list .now) (l .j) (l .work) (l .sets) (l .inv .3)
     (getD (g .list .now) (l .j) 0) refl h (m .last .0) (m .ensures) (t .last .1 .0) (t .ensures) in
     (omega arith, x .only .long, x .grown .long, x)

@@ -17,6 +17,20 @@ Inv-loop w₀ n i first total begin end₀ j₀ w end j = (length w ≡ length w
 abbrev μ-loop : tie.MeasureT-loop
 μ-loop w₀ n i first total begin end₀ j₀ w end j = total - j
 
+-- ---- the stages of the function, each from a later one
+abbrev start-of-first-move : tie.After-first-move Inv-loop μ-loop → tie.Start Inv-loop μ-loop
+start-of-first-move s = s .before .before .before
+
+abbrev first-move-of-move-total : tie.After-move-total Inv-loop μ-loop → tie.After-first-move Inv-loop μ-loop
+first-move-of-move-total s = s .before .before
+
+abbrev move-total-of-at-loop : tie.At-loop Inv-loop μ-loop → tie.After-move-total Inv-loop μ-loop
+move-total-of-at-loop s = s .before
+
+abbrev at-loop-of-line-move : tie.After-line-move Inv-loop μ-loop → tie.At-loop Inv-loop μ-loop
+at-loop-of-line-move s = s .before .before .before
+
+-- ---- what is left to show
 first-move-requires : tie.Need-first-move-requires Inv-loop μ-loop
 first-move-requires c κs = search needs
 
@@ -41,11 +55,14 @@ loop-holds c =
 
 line-move-requires : tie.Need-line-move-requires Inv-loop μ-loop
 line-move-requires c κs =
-    let b = c .before .before .before .before .before .before .before .before in
+    let at-loop = c .before .before in
+    let at-move-total = move-total-of-at-loop at-loop in
+    let at-first-move = first-move-of-move-total at-move-total in
+    let b = start-of-first-move at-first-move in
     let g = b .args in
-    let l = c .before .before .loop in
-    let f = c .before .before .before .before .before .first-move in
-    let t = c .before .before .before .move-total in
+    let l = at-loop .loop in
+    let f = at-first-move .first-move in
+    let t = at-move-total .move-total in
     let x = l .inv .2 in
     (lining-fits (g .work .now) (g .n) (f .result) (t .result) (l .inv .1) (l .work) (l .end) (l .j) x, omega arith, x .ends .0, x .ends .1, x .ascends)
 
@@ -57,12 +74,16 @@ loop-less c = search needs
 
 loop-again : tie.Need-loop-again Inv-loop μ-loop
 loop-again c =
-    let b = c .before .before .before .before .before .before .before .before .before .before .before in
+    let at-line-move = c .before .before in
+    let at-loop = at-loop-of-line-move at-line-move in
+    let at-move-total = move-total-of-at-loop at-loop in
+    let at-first-move = first-move-of-move-total at-move-total in
+    let b = start-of-first-move at-first-move in
     let g = b .args in
-    let l = c .before .before .before .before .before .loop in
-    let f = c .before .before .before .before .before .before .before .before .first-move in
-    let t = c .before .before .before .before .before .before .move-total in
-    let m = c .before .before .line-move in
+    let l = at-loop .loop in
+    let f = at-first-move .first-move in
+    let t = at-move-total .move-total in
+    let m = at-line-move .line-move in
     let x = lining-next (g .work .now) (g .n) (f .result) (t .result) (l .inv .1) (l .work) (l .end) (l .j) (l .inv .2) (omega arith) (m .last .0)
     (m .result) (m .ensures) in
     (x .only .long, l .inv .1, x)

@@ -1,17 +1,33 @@
 -- `line_move` enters the line of an irredundant move; there is room, as there were no more lines than moves before.
 use mathlib.Core.List.{List}
 use lib.ListN.{getD}
-use Rattle.list_laws.specs.TestLaws.{not-back}
-use Rattle.dominators.specs.LowerMoves.{not-failing}
 use Rattle.dominators.specs.SliceShapes.{span-shorter}
 use Rattle.round_lines.specs.MemberLinesFound.{moved-none, moved-put, moved-full, judged-fits, judged-ascends}
 use native.Mathlib.Omega.{arith}
 use Prim.Native.Nat.{ℕ, _+_, _-_, _%_}
 use borrow.Author.Needs.{needs}
+use borrow.Author.Tests.{not-false, not-true}
 use Rattle.round_lines.proofs.line_move.Statement.{statement}
 use Rattle.round_lines.proofs.line_move.Tie as tie
 use Rattle.work_layout.specs.WorkLayout.{movesAt}
 
+-- ---- the stages of the function, each from a later one
+abbrev start-of-irredundant : tie.After-irredundant → tie.Start
+start-of-irredundant s = s .before .before .before
+
+abbrev irredundant-of-else1 : tie.Else1 → tie.After-irredundant
+irredundant-of-else1 s = s .before .before .before
+
+abbrev else1-of-line-of : tie.After-line-of → tie.Else1
+else1-of-line-of s = s .before .before
+
+abbrev line-of-of-enter-number : tie.After-enter-number → tie.After-line-of
+line-of-of-enter-number s = s .before .before
+
+abbrev enter-number-of-r : tie.After-r → tie.After-enter-number
+enter-number-of-r s = s .before .before .before .before
+
+-- ---- what is left to show
 irredundant-requires : tie.Need-irredundant-requires
 irredundant-requires c κs = let b = c .before .before in span-shorter (b .pre .0) (b .args .j + 1) (omega arith)
 
@@ -24,7 +40,7 @@ returns c =
     let g = b .args in
     let i = c .before .before .before .irredundant in
     moved-none (g .work .now) (g .n) (g .first) (g .total) (g .j) (g .end) (b .pre .0) (b .pre .1) (b .pre .2, b .pre .3) (i .last .0) (i .result)
-    (i .ensures) (not-back (i .result) (c .if1 .taken)) (b .pre .4)
+    (i .ensures) (not-true (i .result) (c .if1 .taken)) (b .pre .4)
 
 add-line-of : tie.Need-add-line-of
 add-line-of c = search needs
@@ -62,9 +78,10 @@ add-enter-number-3 c = search needs
 
 enter-number-requires : tie.Need-enter-number-requires
 enter-number-requires c κs =
-    let b = c .before .before .before .before .before .before .before .before .before in
+    let at-irredundant = irredundant-of-else1 (else1-of-line-of (c .before)) in
+    let b = start-of-irredundant at-irredundant in
     let g = b .args in
-    let i = c .before .before .before .before .before .before .irredundant in (
+    let i = at-irredundant .irredundant in (
       b .pre .2,
       omega arith,
       omega (arith, b .pre .0 .span, b .pre .0 .long, i .ensures .outside .long),
@@ -83,11 +100,14 @@ same-length-2 c = search needs
 
 returns-2 : tie.Need-returns-2
 returns-2 c =
-    let b = c .before .before .before .before .before .before .before .before .before .before .before .before .before .before in
+    let at-enter-number = c .before .before .before .before in
+    let at-line-of = line-of-of-enter-number at-enter-number in
+    let at-irredundant = irredundant-of-else1 (else1-of-line-of at-line-of) in
+    let b = start-of-irredundant at-irredundant in
     let g = b .args in
-    let i = c .before .before .before .before .before .before .before .before .before .before .before .irredundant in
-    let l = c .before .before .before .before .before .before .line-of in
-    let e = c .before .before .before .before .enter-number in
+    let i = at-irredundant .irredundant in
+    let l = at-line-of .line-of in
+    let e = at-enter-number .enter-number in
     absurd (moved-full (g .work .now) (g .n) (g .first) (g .total) (g .j) (g .end) (b .pre .0) (b .pre .1) (b .pre .2, b .pre .3) (i .last .0)
     (i .result) (i .ensures) (l .result) (e .last .0) (e .result) (e .ensures) (c .enum-told .given .1))
 
@@ -96,15 +116,20 @@ same-length-3 c = search needs
 
 returns-3 : tie.Need-returns-3
 returns-3 c =
-    let b = c .before .before .before .before .before .before .before .before .before .before .before .before .before .before .before in
+    let at-r = c .before in
+    let at-enter-number = enter-number-of-r at-r in
+    let at-line-of = line-of-of-enter-number at-enter-number in
+    let at-else1 = else1-of-line-of at-line-of in
+    let at-irredundant = irredundant-of-else1 at-else1 in
+    let b = start-of-irredundant at-irredundant in
     let g = b .args in
-    let i = c .before .before .before .before .before .before .before .before .before .before .before .before .irredundant in
-    let l = c .before .before .before .before .before .before .before .line-of in
-    let e = c .before .before .before .before .before .enter-number in
+    let i = at-irredundant .irredundant in
+    let l = at-line-of .line-of in
+    let e = at-enter-number .enter-number in
     moved-put (g .work .now) (g .n) (g .first) (g .total) (g .j) (g .end) (b .pre .0) (b .pre .1) (b .pre .2, b .pre .3) (i .last .0)
     (i .result) (i .ensures)
-    (not-failing (i .result) (c .before .before .before .before .before .before .before .before .before .if1 .left)) (b .pre .4)
-    (l .result) (l .ensures) (e .last .0) (e .result) (e .ensures) (c .before .r .given .0 .0) (c .before .r .given .1)
+    (not-false (i .result) (at-else1 .if1 .left)) (b .pre .4)
+    (l .result) (l .ensures) (e .last .0) (e .result) (e .ensures) (at-r .r .given .0 .0) (at-r .r .given .1)
 
 pub line-move-spec : {M : Type 1} → statement M
 line-move-spec =

@@ -16,6 +16,17 @@ Inv-loop w sets₀ width n i first total j₀ sets j = (j ≤ total) × (length 
 abbrev μ-loop : tie.MeasureT-loop
 μ-loop w sets₀ width n i first total j₀ sets j = total - j
 
+-- ---- the stages of the function, each from a later one
+abbrev start-of-first-move : tie.After-first-move Inv-loop μ-loop → tie.Start Inv-loop μ-loop
+start-of-first-move s = s .before .before .before
+
+abbrev first-move-of-at-loop : tie.At-loop Inv-loop μ-loop → tie.After-first-move Inv-loop μ-loop
+first-move-of-at-loop s = s .before .before
+
+abbrev at-loop-of-watch-move : tie.After-watch-move Inv-loop μ-loop → tie.At-loop Inv-loop μ-loop
+at-loop-of-watch-move s = s .before .before .before
+
+-- ---- what is left to show
 first-move-requires : tie.Need-first-move-requires Inv-loop μ-loop
 first-move-requires c κs = search needs
 
@@ -55,10 +66,14 @@ loop-less c = search needs
 
 loop-again : tie.Need-loop-again Inv-loop μ-loop
 loop-again c =
-    let g = c .before .before .before .before .before .before .before .before .before .before .args in
-    let l = c .before .before .before .before .before .loop in
-    let f = c .before .before .before .before .before .before .before .first-move in
-    let m = c .before .before .watch-move in
+    let at-watch-move = c .before .before in
+    let at-loop = at-loop-of-watch-move at-watch-move in
+    let at-first-move = first-move-of-at-loop at-loop in
+    let at-start = start-of-first-move at-first-move in
+    let g = at-start .args in
+    let l = at-loop .loop in
+    let f = at-first-move .first-move in
+    let m = at-watch-move .watch-move in
     let x = watching-next (g .work .now) (g .sets .now) (g .width) (g .n) (g .i) (f .result) (l .j) (l .sets) (l .inv .2) (m .last .1 .0)
     (m .ensures .0) (m .ensures .1) in
     (omega arith, x .grown .long, x)

@@ -9,6 +9,17 @@ use borrow.Author.Needs.{needs}
 use Rattle.round_lines.proofs.watch_move.Statement.{statement}
 use Rattle.round_lines.proofs.watch_move.Tie as tie
 
+-- ---- the stages of the function, each from a later one
+abbrev start-of-add-place : tie.After-add-place → tie.Start
+start-of-add-place s = s .before .before .before .before .before
+
+abbrev add-place-of-then1 : tie.Then1 → tie.After-add-place
+add-place-of-then1 s = s .before .before .before .before
+
+abbrev then1-of-add-place2 : tie.After-add-place2 → tie.Then1
+then1-of-add-place2 s = s .before .before
+
+-- ---- what is left to show
 add-t : tie.Need-add-t
 add-t c = search needs
 
@@ -56,19 +67,22 @@ cast-q c = search needs
 
 mul-add-place-2 : tie.Need-mul-add-place-2
 mul-add-place-2 c =
-    let b = c .before .before .before .before .before .before .before .before .before .before in
+    let at-then1 = c .before in
+    let b = start-of-add-place (add-place-of-then1 at-then1) in
     let g = b .args in
     let p = b .pre in
-    let m : keptAt (g .work .now) (g .first) (g .j) % 65536 ≤ 512 = omega (arith, c .before .if1 .taken, p .2) in
+    let m : keptAt (g .work .now) (g .first) (g .j) % 65536 ≤ 512 = omega (arith, at-then1 .if1 .taken, p .2) in
     omega (arith, mul-le-mul-right (g .width) m, p .5)
 
 add-place-requires-2 : tie.Need-add-place-requires-2
 add-place-requires-2 c κs =
-    let b = c .before .before .before .before .before .before .before .before .before .before in
+    let at-then1 = c .before in
+    let at-add-place = add-place-of-then1 at-then1 in
+    let b = start-of-add-place at-add-place in
     let g = b .args in
     let p = b .pre in
-    let s = c .before .before .before .before .before .add-place in
-    row-word (keptAt (g .work .now) (g .first) (g .j) % 65536) (g .n) (g .width) (g .i) (length (s .last .0)) (c .before .if1 .taken) (p .4)
+    let s = at-add-place .add-place in
+    row-word (keptAt (g .work .now) (g .first) (g .j) % 65536) (g .n) (g .width) (g .i) (length (s .last .0)) (at-then1 .if1 .taken) (p .4)
     (omega (arith, p .6, place-long (g .sets .now) (s .last .0) (targetAt (g .work .now) (g .first) (g .j) * g .width) (g .i) (s .ensures)))
 
 same-length : tie.Need-same-length
@@ -76,23 +90,27 @@ same-length c = search needs
 
 returns : tie.Need-returns
 returns c =
-    let b = c .before .before .before .before .before .before .before .before .before .before .before .before .before in
+    let at-add-place2 = c .before .before in
+    let at-then1 = then1-of-add-place2 at-add-place2 in
+    let at-add-place = add-place-of-then1 at-then1 in
+    let b = start-of-add-place at-add-place in
     let g = b .args in
     let p = b .pre in
-    let s = c .before .before .before .before .before .before .before .before .add-place in
-    let t = c .before .before .add-place2 in
+    let s = at-add-place .add-place in
+    let t = at-add-place2 .add-place2 in
     watched-both (g .work .now) (g .sets .now) (s .last .0) (t .last .0) (g .width) (g .n) (g .first) (g .j) (g .i) (s .ensures) (t .ensures)
-    (p .3) (c .before .before .before .before .if1 .taken) (p .4) (p .6)
+    (p .3) (at-then1 .if1 .taken) (p .4) (p .6)
 
 same-length-2 : tie.Need-same-length-2
 same-length-2 c = search needs
 
 returns-2 : tie.Need-returns-2
 returns-2 c =
-    let b = c .before .before .before .before .before .before .before .before .before in
+    let at-add-place = c .before .before .before .before in
+    let b = start-of-add-place at-add-place in
     let g = b .args in
     let p = b .pre in
-    let s = c .before .before .before .before .add-place in
+    let s = at-add-place .add-place in
     watched-one (g .work .now) (g .sets .now) (s .last .0) (g .width) (g .n) (g .first) (g .j) (g .i) (s .ensures) (λ l. omega (arith, c .if1 .left))
     (p .3) (p .4) (p .6)
 

@@ -1,10 +1,8 @@
 -- `choose_rest` goes up from place to place, so the last member of each class that is not awake stays.
 use mathlib.Core.Logic.{⊎-elim}
 use lib.ListN.{length}
-use borrow.Author.Tests.{eqb-true, eqb-false}
-use Rattle.list_laws.specs.TestLaws.{not-back}
+use borrow.Author.Tests.{eqb-true, eqb-false, not-false, not-true}
 use Rattle.place_sets.specs.PlaceSets.{placeDigit}
-use Rattle.dominators.specs.LowerMoves.{not-failing}
 use Rattle.round_steps.specs.ChosenMembers.{Rechosen, rechosen-first, rechosen-class, rechosen-pass, rechosen-next}
 use borrow.Author.Needs.{needs}
 use native.Mathlib.Omega.{arith}
@@ -68,12 +66,12 @@ loop-again c =
     let x : Rechosen (g .work .now) (g .n) (g .awake .now) (l .i + 1) (c .if1 .work) =
     ⊎-elim (λ z. rw (z .3)
     (rechosen-next (g .work .now) (g .n) (g .awake .now) (l .i) (l .work) (l .inv .2)
-    (eqb-false (placeDigit (g .awake .now) 0 (l .i)) 1 (sym (h .ensures) ∙ not-back (h .result) (z .0 .taken)))
+    (eqb-false (placeDigit (g .awake .now) 0 (l .i)) 1 (sym (h .ensures) ∙ not-true (h .result) (z .0 .taken)))
     (b .pre .1) (z .2 .result) (z .2 .ensures ∙ rechosen-class (l .inv .2) (l .i) (omega arith))
     (omega (arith, z .2 .ensures, rechosen-class (l .inv .2) (l .i) (omega arith), b .pre .2 (l .i) (c .before .before .loop-test .taken)))))
     (λ z. rw (z .1)
     (rechosen-pass (g .work .now) (g .n) (g .awake .now) (l .i) (l .work) (l .inv .2)
-    (eqb-true (placeDigit (g .awake .now) 0 (l .i)) 1 (sym (h .ensures) ∙ not-failing (h .result) (z .0 .left)))))
+    (eqb-true (placeDigit (g .awake .now) 0 (l .i)) 1 (sym (h .ensures) ∙ not-false (h .result) (z .0 .left)))))
     (c .if1 .came) in
     (omega arith, x .only .long, x)
 

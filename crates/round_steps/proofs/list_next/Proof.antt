@@ -14,6 +14,12 @@ start-of-wake s = s .before .before .before .before .before .before
 abbrev wake-of-list-places : tie.After-list-places → tie.After-wake
 wake-of-list-places s = s .before .before .before
 
+abbrev list-places-of-chosen-listed : tie.After-chosen-listed → tie.After-list-places
+list-places-of-chosen-listed s = s .before .before .before
+
+abbrev chosen-listed-of-choose-rest : tie.After-choose-rest → tie.After-chosen-listed
+chosen-listed-of-choose-rest s = s .before .before .before .before
+
 -- ---- what is left to show
 wake-requires : tie.Need-wake-requires
 wake-requires c κs =
@@ -62,13 +68,15 @@ same-length c = search needs
 
 returns : tie.Need-returns
 returns c =
-    let at-list-places = c .before .before .before .before .before .before .before .before .before in
+    let at-choose-rest = c .before .before in
+    let at-chosen-listed = chosen-listed-of-choose-rest at-choose-rest in
+    let at-list-places = list-places-of-chosen-listed at-chosen-listed in
     let at-wake = wake-of-list-places at-list-places in
     let at-start = start-of-wake at-wake in
     let b = at-start in
     let g = b .args in
     let p = b .pre in
-    let x = c .before .before .choose-rest in
+    let x = at-choose-rest .choose-rest in
     let y = at-list-places .list-places in
     let z = at-wake .wake in
     next-chosen (g .work .now) (g .sets .now) (g .width) (g .n) (g .old) (g .list .now) (g .k) (z .last .1 .1 .1 .1 .1 .1 .0) (z .ensures)

@@ -21,6 +21,14 @@ Inv-loop w₀ n list k round old count₀ j₀ w count j =
 abbrev μ-loop : tie.MeasureT-loop
 μ-loop w₀ n list k round old count₀ j₀ w count j = k - j
 
+-- ---- the stages of the function, each from a later one
+abbrev start-of-at-loop : tie.At-loop Inv-loop μ-loop → tie.Start Inv-loop μ-loop
+start-of-at-loop s = s .before .before
+
+abbrev at-loop-of-split-member : tie.After-split-member Inv-loop μ-loop → tie.At-loop Inv-loop μ-loop
+at-loop-of-split-member s = s .before .before .before .before
+
+-- ---- what is left to show
 loop-holds : tie.Need-loop-holds Inv-loop μ-loop
 loop-holds c =
     let b = c .before in
@@ -57,11 +65,13 @@ loop-less c = search needs
 
 loop-again : tie.Need-loop-again Inv-loop μ-loop
 loop-again c =
-    let b = c .before .before .before .before .before .before .before .before in
+    let at-split-member = c .before .before in
+    let at-loop = at-loop-of-split-member at-split-member in
+    let b = start-of-at-loop at-loop in
     let g = b .args in
-    let l = c .before .before .before .before .before .before .loop in
+    let l = at-loop .loop in
     let h = c .before .before .before .before .before .loop-test .taken in
-    let s = c .before .before .split-member in
+    let s = at-split-member .split-member in
     let list : List ℕ = g .list .now in
     let x = splitting-next (g .work .now) (g .n) (g .round) (g .old) (l .work) (l .count) (InList list (l .j)) (l .inv .2)
     (getD list (l .j) 0) (b .pre .0) (b .pre .1) (b .pre .5 .below (l .j) h) (b .pre .3 .known) (list-new (b .pre .5) (l .j) h)

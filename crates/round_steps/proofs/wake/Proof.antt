@@ -16,6 +16,14 @@ Inv-loop w sets width old list k awake₀ j₀ awake j = (j ≤ k) × Woken w se
 abbrev μ-loop : tie.MeasureT-loop
 μ-loop w sets width old list k awake₀ j₀ awake j = k - j
 
+-- ---- the stages of the function, each from a later one
+abbrev start-of-at-loop : tie.At-loop Inv-loop μ-loop → tie.Start Inv-loop μ-loop
+start-of-at-loop s = s .before .before .before
+
+abbrev at-loop-of-class-at : tie.After-class-at Inv-loop μ-loop → tie.At-loop Inv-loop μ-loop
+at-loop-of-class-at s = s .before .before .before
+
+-- ---- what is left to show
 loop-holds : tie.Need-loop-holds Inv-loop μ-loop
 loop-holds c =
     let g = c .before .before .args in
@@ -44,16 +52,19 @@ cast-if1 c = search needs
 
 mul-unite : tie.Need-mul-unite Inv-loop μ-loop
 mul-unite c =
-    let b = c .before .before .before .before .before .before .before in
+    let at-loop = at-loop-of-class-at (c .before) in
+    let b = start-of-at-loop at-loop in
     let g = b .args in
-    let l = c .before .before .before .before .loop in
+    let l = at-loop .loop in
     let m : getD (g .list .now) (l .j) 0 ≤ 512 = omega (arith, b .pre .3 (l .j) (c .before .before .before .loop-test .taken) .0) in
     record { fits = omega (arith, mul-le-mul-right (g .width) m, b .pre .2) }
 
 unite-requires : tie.Need-unite-requires Inv-loop μ-loop
 unite-requires c κs =
-    let b = c .before .before .before .before .before .before .before .before in
-    let l = c .before .before .before .before .before .loop in
+    let at-class-at = c .before .before in
+    let at-loop = at-loop-of-class-at at-class-at in
+    let b = start-of-at-loop at-loop in
+    let l = at-loop .loop in
     (b .pre .2, b .pre .3 (l .j) (c .before .before .before .before .loop-test .taken) .1)
 
 add-j : tie.Need-add-j Inv-loop μ-loop
@@ -64,10 +75,12 @@ loop-less c = search needs
 
 loop-again : tie.Need-loop-again Inv-loop μ-loop
 loop-again c =
-    let b = c .before .before .before .before .before .before .before in
+    let at-class-at = c .before in
+    let at-loop = at-loop-of-class-at at-class-at in
+    let b = start-of-at-loop at-loop in
     let g = b .args in
-    let l = c .before .before .before .before .loop in
-    let k = c .before .class-at in (
+    let l = at-loop .loop in
+    let k = at-class-at .class-at in (
       omega arith,
       ⊎-elim (λ z. rw (z .3)
           (woken-more (g .work .now) (g .sets .now) (g .width) (g .old) (g .list .now) (l .j) (l .awake) (z .2 .last .1 .1 .1 .0) (l .inv .1) (z .2 .ensures)))

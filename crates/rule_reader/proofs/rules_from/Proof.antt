@@ -22,6 +22,23 @@ Inv-loop s facts n at rules₀ p₀ i₀ rules p i =
 abbrev μ-loop : tie.MeasureT-loop
 μ-loop s facts n at rules₀ p₀ i₀ rules p i = n - i
 
+-- ---- the stages of the function, each from a later one
+abbrev start-of-at-loop : tie.At-loop Inv-loop μ-loop → tie.Start Inv-loop μ-loop
+start-of-at-loop s = s .before .before
+
+abbrev at-loop-of-premise-at : tie.After-premise-at Inv-loop μ-loop → tie.At-loop Inv-loop μ-loop
+at-loop-of-premise-at s = s .before .before
+
+abbrev premise-at-of-x : tie.After-x Inv-loop μ-loop → tie.After-premise-at Inv-loop μ-loop
+premise-at-of-x s = s .before .before
+
+abbrev x-of-set-at : tie.After-set-at Inv-loop μ-loop → tie.After-x Inv-loop μ-loop
+x-of-set-at s = s .before .before
+
+abbrev set-at-of-y : tie.After-y Inv-loop μ-loop → tie.After-set-at Inv-loop μ-loop
+set-at-of-y s = s .before .before
+
+-- ---- what is left to show
 loop-holds : tie.Need-loop-holds Inv-loop μ-loop
 loop-holds c =
     let a = c .before .args in
@@ -60,10 +77,15 @@ enum-told-2 c = search needs
 
 returns-2 : tie.Need-returns-2 Inv-loop μ-loop
 returns-2 c =
-    let a = c .before .before .before .before .before .before .before .before .before .before .args in
-    let l = c .before .before .before .before .before .before .before .before .loop in
-    let premise = answer-got (c .before .before .before .before .before .before .premise-at .ensures) (c .before .before .before .before .x .given .1) in
-    let wrong = answer-refused (c .before .before .set-at .ensures) (c .enum-told2 .given .1) in
+    let at-set-at = c .before .before in
+    let at-x = x-of-set-at at-set-at in
+    let at-premise-at = premise-at-of-x at-x in
+    let at-loop = at-loop-of-premise-at at-premise-at in
+    let at-start = start-of-at-loop at-loop in
+    let a = at-start .args in
+    let l = at-loop .loop in
+    let premise = answer-got (at-premise-at .premise-at .ensures) (at-x .x .given .1) in
+    let wrong = answer-refused (at-set-at .set-at .ensures) (c .enum-told2 .given .1) in
     refused-with (rulesIn (l .rules)) (c .enum-told2 .given .1)
     ∙ sym (records-refused (ruleItem (a .facts) (a .s .now)) (a .n) (l .i) (rulesIn (l .rules) (l .i)) (l .p) _ _ (omega arith)
     (rule-no-conclusion (a .facts) (a .s .now) (l .p) premise wrong))
@@ -98,12 +120,18 @@ loop-less c = search needs
 
 loop-again : tie.Need-loop-again Inv-loop μ-loop
 loop-again c =
-    let a = c .before .before .before .before .before .before .before .before .before .before .before .args in
-    let l = c .before .before .before .before .before .before .before .before .before .loop in
-    let premise = answer-got (c .before .before .before .before .before .before .before .premise-at .ensures) (c .before .before .before .before .before .x .given .1) in
-    let conclusion = answer-got (c .before .before .before .set-at .ensures) (c .before .y .given .1) in (
+    let at-y = c .before in
+    let at-set-at = set-at-of-y at-y in
+    let at-x = x-of-set-at at-set-at in
+    let at-premise-at = premise-at-of-x at-x in
+    let at-loop = at-loop-of-premise-at at-premise-at in
+    let at-start = start-of-at-loop at-loop in
+    let a = at-start .args in
+    let l = at-loop .loop in
+    let premise = answer-got (at-premise-at .premise-at .ensures) (at-x .x .given .1) in
+    let conclusion = answer-got (at-set-at .set-at .ensures) (at-y .y .given .1) in (
       search needs,
-      set-gets (a .s .now) (c .before .before .before .before .before .x .given .0 .1 .0) (a .facts) .holds _ _ conclusion .0 .within,
+      set-gets (a .s .now) (at-x .x .given .0 .1 .0) (a .facts) .holds _ _ conclusion .0 .within,
       simp length-set (omega arith),
       sym (rules-next (a .facts) (a .s .now) (a .n) (l .rules) (l .i) (l .p) (omega arith) (omega arith)
           (rule-got (a .facts) (a .s .now) (l .p) premise conclusion))

@@ -17,6 +17,17 @@ Inv-loop w₀ n count₀ i₀ w count i = (i ≤ n) × (length w ≡ length w₀
 abbrev μ-loop : tie.MeasureT-loop
 μ-loop w₀ n count₀ i₀ w count i = n - i
 
+-- ---- the stages of the function, each from a later one
+abbrev start-of-choose-first : tie.After-choose-first Inv-loop μ-loop → tie.Start Inv-loop μ-loop
+start-of-choose-first s = s .before .before .before
+
+abbrev choose-first-of-at-loop : tie.At-loop Inv-loop μ-loop → tie.After-choose-first Inv-loop μ-loop
+choose-first-of-at-loop s = s .before .before .before
+
+abbrev at-loop-of-number-class : tie.After-number-class Inv-loop μ-loop → tie.At-loop Inv-loop μ-loop
+at-loop-of-number-class s = s .before .before .before
+
+-- ---- what is left to show
 choose-first-requires : tie.Need-choose-first-requires Inv-loop μ-loop
 choose-first-requires c κs =
     let p = c .before .before .pre in
@@ -27,11 +38,13 @@ loop-holds c = (omega arith, refl, numbering-first (c .before .before .choose-fi
 
 number-class-requires : tie.Need-number-class-requires Inv-loop μ-loop
 number-class-requires c κs =
-    let b = c .before .before .before .before .before .before .before .before in
+    let at-loop = c .before .before in
+    let at-choose-first = choose-first-of-at-loop at-loop in
+    let b = start-of-choose-first at-choose-first in
     let g = b .args in
     let p = b .pre in
-    let l = c .before .before .loop in
-    let h = c .before .before .before .before .before .choose-first in
+    let l = at-loop .loop in
+    let h = at-choose-first .choose-first in
     let N = l .inv .2 in (
       omega (arith, p .few),
       omega (arith, p .few, N .few),
@@ -48,12 +61,15 @@ loop-less c = search needs
 
 loop-again : tie.Need-loop-again Inv-loop μ-loop
 loop-again c =
-    let b = c .before .before .before .before .before .before .before .before .before .before .before in
+    let at-number-class = c .before .before in
+    let at-loop = at-loop-of-number-class at-number-class in
+    let at-choose-first = choose-first-of-at-loop at-loop in
+    let b = start-of-choose-first at-choose-first in
     let g = b .args in
     let p = b .pre in
-    let l = c .before .before .before .before .before .loop in
-    let h = c .before .before .before .before .before .before .before .before .choose-first in
-    let s = c .before .before .number-class in
+    let l = at-loop .loop in
+    let h = at-choose-first .choose-first in
+    let s = at-number-class .number-class in
     let x = numbering-next (h .last .0) (g .n) (p .count) (firsts-classed (h .ensures) (p .few) (p .classed))
     (firsts-chosen (h .ensures) (p .few)) (p .few) (omega (arith, p .long, h .ensures .only .long)) (l .i)
     (c .before .before .before .before .loop-test .taken)
@@ -65,9 +81,11 @@ same-length c = search needs
 
 returns : tie.Need-returns Inv-loop μ-loop
 returns c =
-    let g = c .before .before .before .before .before .before .before .args in
-    let l = c .before .loop in
-    let h = c .before .before .before .before .choose-first in
+    let at-loop = c .before in
+    let at-choose-first = choose-first-of-at-loop at-loop in
+    let g = start-of-choose-first at-choose-first .args in
+    let l = at-loop .loop in
+    let h = at-choose-first .choose-first in
     let e : l .i ≡ g .n = omega arith in
     renumbered (h .last .0) (g .n) (l .work) (l .count) (subst (λ (z : ℕ). Numbering (h .last .0) (g .n) z (l .work) (l .count)) e (l .inv .2))
     (g .work .now) (h .ensures)

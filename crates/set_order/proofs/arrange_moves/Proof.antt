@@ -5,6 +5,14 @@ use borrow.Author.Needs.{needs}
 use Rattle.set_order.proofs.arrange_moves.Statement.{statement}
 use Rattle.set_order.proofs.arrange_moves.Tie as tie
 
+-- ---- the stages of the function, each from a later one
+abbrev start-of-place-targets : tie.After-place-targets → tie.Start
+start-of-place-targets s = s .before .before .before .before
+
+abbrev place-targets-of-sort-numbers : tie.After-sort-numbers → tie.After-place-targets
+place-targets-of-sort-numbers s = s .before .before .before .before
+
+-- ---- what is left to show
 add-span : tie.Need-add-span
 add-span c = search needs
 
@@ -36,8 +44,9 @@ place-targets-requires c κs =
 
 sort-numbers-requires : tie.Need-sort-numbers-requires
 sort-numbers-requires c κs =
-    let b = c .before .before .before .before .before .before .before in
-    let p = c .before .before .before .place-targets in
+    let at-place-targets = c .before .before .before in
+    let b = start-of-place-targets at-place-targets in
+    let p = at-place-targets .place-targets in
     (omega arith, omega (arith, b .pre .2 .within, p .ensures .outside .long), moves-distinct (b .pre .0) (b .pre .2) (p .ensures))
 
 same-length : tie.Need-same-length
@@ -45,9 +54,11 @@ same-length c = search needs
 
 returns : tie.Need-returns
 returns c =
-    let b = c .before .before .before .before .before .before .before .before .before .before in
-    let p = c .before .before .before .before .before .before .place-targets in
-    moves-arranged (b .pre .0) (b .pre .2) (p .ensures) (c .before .before .sort-numbers .ensures)
+    let at-sort-numbers = c .before .before in
+    let at-place-targets = place-targets-of-sort-numbers at-sort-numbers in
+    let b = start-of-place-targets at-place-targets in
+    let p = at-place-targets .place-targets in
+    moves-arranged (b .pre .0) (b .pre .2) (p .ensures) (at-sort-numbers .sort-numbers .ensures)
 
 pub arrange-moves-spec : {M : Type 1} → statement M
 arrange-moves-spec =

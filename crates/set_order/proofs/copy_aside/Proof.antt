@@ -6,6 +6,14 @@ use borrow.Author.Needs.{needs}
 use Rattle.set_order.proofs.copy_aside.Statement.{statement}
 use Rattle.set_order.proofs.copy_aside.Tie as tie
 
+-- ---- the stages of the function, each from a later one
+abbrev start-of-id-at : tie.After-id-at → tie.Start
+start-of-id-at s = s .before .before .before
+
+abbrev id-at-of-copy-numbers : tie.After-copy-numbers → tie.After-id-at
+id-at-of-copy-numbers s = s .before .before .before
+
+-- ---- what is left to show
 id-at-requires : tie.Need-id-at-requires
 id-at-requires c κs = let b = c .before .before in (b .pre .0 .kept, b .pre .1)
 
@@ -58,9 +66,11 @@ same-length c = search needs
 
 returns : tie.Need-returns
 returns c =
-    let b = c .before .before .before .before .before .before .before .before in
-    let i = c .before .before .before .before .before .id-at in
-    aside-stored (b .pre .0) (b .pre .1) (i .ensures .0) (c .before .before .copy-numbers .ensures)
+    let at-copy-numbers = c .before .before in
+    let at-id-at = id-at-of-copy-numbers at-copy-numbers in
+    let b = start-of-id-at at-id-at in
+    let i = at-id-at .id-at in
+    aside-stored (b .pre .0) (b .pre .1) (i .ensures .0) (at-copy-numbers .copy-numbers .ensures)
 
 pub copy-aside-spec : {M : Type 1} → statement M
 copy-aside-spec =

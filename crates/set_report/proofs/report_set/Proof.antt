@@ -8,6 +8,23 @@ use borrow.Author.Needs.{needs}
 use Rattle.set_report.proofs.report_set.Statement.{statement}
 use Rattle.set_report.proofs.report_set.Tie as tie
 
+-- ---- the stages of the function, each from a later one
+abbrev refine-of-find-member : tie.After-find-member → tie.After-refine
+refine-of-find-member s = s .before .before .before .before .before .before
+
+abbrev find-member-of-trail : tie.After-trail → tie.After-find-member
+find-member-of-trail s = s .before .before .before .before .before .before .before
+
+abbrev refine-of-trail : tie.After-trail → tie.After-refine
+refine-of-trail s = refine-of-find-member (find-member-of-trail s)
+
+abbrev number-classes-of-report-length : tie.After-report-length → tie.After-number-classes
+number-classes-of-report-length s = s .before .before .before .before
+
+abbrev report-length-of-put-report : tie.After-put-report → tie.After-report-length
+report-length-of-put-report s = s .before .before .before .before
+
+-- ---- what is left to show
 refine-requires : tie.Need-refine-requires
 refine-requires c κs = report-ready (c .before .before .before .pre)
 
@@ -65,7 +82,7 @@ trail-requires c κs =
 number-classes-requires : tie.Need-number-classes-requires
 number-classes-requires c κs =
     let t = c .before .before .before in
-    let r = t .before .before .before .before .before .before .before .before .before .before .before .before .before in
+    let r = refine-of-trail t in
     let b = r .before .before .before .before in
     let H = r .refine .ensures .rounds-held (b .pre .sheet) (b .pre .set) (starts-ready (b .pre .starts)) in
     rounds-numbered H (t .trail .ensures .outside)
@@ -74,7 +91,7 @@ report-length-requires : tie.Need-report-length-requires
 report-length-requires c κs =
     let d = c .before .before .before in
     let t = d .before .before .before .before in
-    let r = t .before .before .before .before .before .before .before .before .before .before .before .before .before in
+    let r = refine-of-trail t in
     let b = r .before .before .before .before in
     report-held (r .refine .ensures) (t .trail .ensures) (d .number-classes .ensures) (b .pre .starts)
 
@@ -103,7 +120,7 @@ put-report-requires c κs =
     let l = c .before .before .before in
     let d = l .before .before .before .before in
     let t = d .before .before .before .before in
-    let r = t .before .before .before .before .before .before .before .before .before .before .before .before .before in
+    let r = refine-of-trail t in
     let b = r .before .before .before .before in (
       report-held (r .refine .ensures) (t .trail .ensures) (d .number-classes .ensures) (b .pre .starts),
       omega (arith, l .report-length .ensures, c .before .before .if1 .left),
@@ -114,9 +131,9 @@ verdict-on-requires c κs = search needs
 
 same-length-2 : tie.Need-same-length-2
 same-length-2 c =
-    let d = c .before .before .before .before .before .before .before .before .before .before .before in
+    let d = number-classes-of-report-length (report-length-of-put-report (c .before .before .before)) in
     let t = d .before .before .before .before in
-    let r = t .before .before .before .before .before .before .before .before .before .before .before .before .before in
+    let r = refine-of-trail t in
     report-outside (r .refine .ensures) (t .trail .ensures) (d .number-classes .ensures) .long
 
 same-length-3 : tie.Need-same-length-3

@@ -33,8 +33,14 @@ g-of-nodes-at s = s .before .before .before .before
 abbrev nodes-at-of-h : tie.After-h → tie.After-nodes-at
 nodes-at-of-h s = s .before .before
 
+abbrev h-of-table : tie.After-table → tie.After-h
+h-of-table s = s .before .before .before .before
+
+abbrev table-of-starts-at : tie.After-starts-at → tie.After-table
+table-of-starts-at s = s .before .before .before .before
+
 abbrev h-of-starts-at : tie.After-starts-at → tie.After-h
-h-of-starts-at s = s .before .before .before .before .before .before .before .before
+h-of-starts-at s = h-of-table (table-of-starts-at s)
 
 abbrev starts-at-of-k : tie.After-k → tie.After-starts-at
 starts-at-of-k s = s .before .before
@@ -126,7 +132,8 @@ returns-3 c =
 
 starts-at-requires : tie.Need-starts-at-requires
 starts-at-requires c κs =
-    let at-h = c .before .before .before .before .before .before .before in
+    let at-table = c .before .before .before in
+    let at-h = h-of-table at-table in
     let at-nodes-at = nodes-at-of-h at-h in
     let at-g = g-of-nodes-at at-nodes-at in
     let at-rules-at = rules-at-of-g at-g in

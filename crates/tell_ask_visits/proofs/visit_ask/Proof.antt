@@ -1,16 +1,16 @@
 -- `visit_ask` notes the move of each label to the threads of the next node among those of e; too many threads pass the cap.
 use native.Mathlib.Omega.{arith}
 use borrow.Author.Needs.{needs}
+use borrow.Author.Tests.{not-false, not-true}
 use mathlib.Core.Path.{subst}
 use mathlib.Core.List.{List}
 use Prim.Native.Nat.{ℕ, _*_, _≤_}
 use lib.ListN.{getD, take, drop}
-use Rattle.nodes_to_visit.specs.NodesToVisit.{nodeBeside}
-use Rattle.list_laws.specs.TestLaws.{not-back}
+use Rattle.threads_beside.specs.ThreadsBeside.{nodeBeside}
 use Rattle.sheets.specs.Sheet.{opened}
 use Rattle.walk_state.specs.NotedInWalk.{NotedAll, AllPass, all-on, all-over}
-use Rattle.tell_ask_visits.specs.TellAskMoves.{labelMoves}
-use Rattle.tell_ask_visits.specs.TellAskLaws.{not-refused, eight-places, counted, beside-many, beside-few, beside-sorted, beside-count, answered-collecting, answered-stand, ask-no-room, ask-turn, ask-over}
+use Rattle.label_moves.specs.LabelMoves.{labelMoves}
+use Rattle.tell_ask_visits.specs.TellAskLaws.{eight-places, counted, beside-many, beside-few, beside-sorted, beside-count, answered-collecting, answered-stand, ask-no-room, ask-turn, ask-over}
 use Rattle.tell_ask_visits.proofs.visit_ask.Statement.{statement}
 use Rattle.tell_ask_visits.proofs.visit_ask.Tie as tie
 
@@ -36,7 +36,7 @@ returns c =
           (beside-many
           {threads = take (getD (g .counts .now) (g .q) 0) (drop (8 * g .q) (g .threads .now))}
           (b .ensures) (opened nodes (g .q)) o long (s .pre .2)
-          (not-back (b .result .fits) (c .if1 .taken)));
+          (not-true (b .result .fits) (c .if1 .taken)));
     }
 
 labels-at-requires : tie.Need-labels-at-requires
@@ -53,7 +53,7 @@ note-labels-requires c κs =
     let a = found .labels-at in
     let k : b .result .at .count ≤ 8 =
     beside-count {threads = take (getD (g .counts .now) (g .q) 0) (drop (8 * g .q) (g .threads .now))}
-    (b .ensures) (s .pre .0 .collecting .caps .2) (not-refused (b .result .fits) (few .if1 .left)) in
+    (b .ensures) (s .pre .0 .collecting .caps .2) (not-false (b .result .fits) (few .if1 .left)) in
     (answered-collecting (s .pre .0) (a .ensures), omega (arith, k, s .pre .2), answered-stand (s .pre .0) (a .ensures))
 
 enum-known-r : tie.Need-enum-known-r
@@ -76,7 +76,7 @@ returns-2 c =
     let p = s .pre in
     let long = eight-places (g .e .threads) (s .good .1 .1 .1 .1 .1 .1 .0 .1 .1 .1 .1 .0 .1 .0 .1) in
     let b = joined .put-beside in
-    let fits = not-refused (b .result .fits) (few .if1 .left) in
+    let fits = not-false (b .result .fits) (few .if1 .left) in
     let a = found .labels-at in
     let n = noted .note-labels in
     record {
@@ -107,7 +107,7 @@ returns-3 c =
     let p = s .pre in
     let long = eight-places (g .e .threads) (s .good .1 .1 .1 .1 .1 .1 .0 .1 .1 .1 .1 .0 .1 .0 .1) in
     let b = joined .put-beside in
-    let fits = not-refused (b .result .fits) (few .if1 .left) in
+    let fits = not-false (b .result .fits) (few .if1 .left) in
     let a = found .labels-at in
     let n = noted .note-labels in
     record {

@@ -3,8 +3,9 @@ use Prim.Native.Nat.{_%_}
 use borrow.Author.Needs.{needs}
 use lib.ListN.{getD}
 use lib.Bits.{bitOr}
-use Rattle.nodes_to_visit.specs.NodesToVisit.{nodeBeside}
-use Rattle.tell_ask_visits.specs.TellAskLaws.{sum-place, noted-named, noted-on, noted-full, tell-turn, tell-over}
+use Rattle.threads_beside.specs.ThreadsBeside.{nodeBeside}
+use Rattle.label_moves.specs.LabelMoveLaws.{noted-named, noted-on, noted-full}
+use Rattle.tell_ask_visits.specs.TellAskLaws.{sum-place, tell-turn, tell-over}
 use Rattle.tell_ask_visits.proofs.visit_tell.Statement.{statement}
 use Rattle.tell_ask_visits.proofs.visit_tell.Tie as tie
 

@@ -12,6 +12,17 @@ Inv-loop w last q y r first total k₀ k = NotAnswered w last r q y k
 abbrev μ-loop : tie.MeasureT-loop
 μ-loop w last q y r first total k₀ k = total - k
 
+-- ---- the stages of the function, each from a later one
+abbrev start-of-first-move : tie.After-first-move Inv-loop μ-loop → tie.Start Inv-loop μ-loop
+start-of-first-move s = s .before .before
+
+abbrev first-move-of-at-loop : tie.At-loop Inv-loop μ-loop → tie.After-first-move Inv-loop μ-loop
+first-move-of-at-loop s = s .before .before
+
+abbrev at-loop-of-answers-in : tie.After-answers-in Inv-loop μ-loop → tie.At-loop Inv-loop μ-loop
+at-loop-of-answers-in s = s .before .before .before
+
+-- ---- what is left to show
 first-move-requires : tie.Need-first-move-requires Inv-loop μ-loop
 first-move-requires c κs =
     let f = place-fits (c .before .pre .follows) (c .before .args .q) (c .before .pre .right) in
@@ -85,13 +96,16 @@ answers-in-requires c κs =
 
 returns : tie.Need-returns Inv-loop μ-loop
 returns c =
-    let g = c .before .before .before .before .before .before .before .before .args in
-    let f = c .before .before .before .before .before .before .first-move in
-    let t = c .before .before .before .before .before .move-total in
-    let l = c .before .before .before .before .loop in
+    let at-answers-in = c .before in
+    let at-loop = at-loop-of-answers-in at-answers-in in
+    let at-first-move = first-move-of-at-loop at-loop in
+    let g = start-of-first-move at-first-move .args in
+    let f = at-first-move .first-move in
+    let t = at-loop .before .move-total in
+    let l = at-loop .loop in
     answered-hit (g .work .now) (g .last) (g .r) (g .q) (g .y) (f .result) (t .result) (f .ensures) (t .ensures) (l .k)
-    (c .before .answers-in .result)
-    (omega arith) (c .before .answers-in .ensures) (c .if1 .taken)
+    (at-answers-in .answers-in .result)
+    (omega arith) (at-answers-in .answers-in .ensures) (c .if1 .taken)
 
 add-k : tie.Need-add-k Inv-loop μ-loop
 add-k c =
@@ -103,13 +117,16 @@ loop-less c = search needs
 
 loop-again : tie.Need-loop-again Inv-loop μ-loop
 loop-again c =
-    let g = c .before .before .before .before .before .before .before .before .args in
-    let f = c .before .before .before .before .before .before .first-move in
-    let t = c .before .before .before .before .before .move-total in
-    let l = c .before .before .before .before .loop in
+    let at-answers-in = c .before in
+    let at-loop = at-loop-of-answers-in at-answers-in in
+    let at-first-move = first-move-of-at-loop at-loop in
+    let g = start-of-first-move at-first-move .args in
+    let f = at-first-move .first-move in
+    let t = at-loop .before .move-total in
+    let l = at-loop .loop in
     answered-next (g .work .now) (g .last) (g .r) (g .q) (g .y) (f .result) (t .result) (f .ensures) (t .ensures) (l .k)
-    (c .before .answers-in .result)
-    (omega arith) (l .inv) (c .before .answers-in .ensures) (c .if1 .left)
+    (at-answers-in .answers-in .result)
+    (omega arith) (l .inv) (at-answers-in .answers-in .ensures) (c .if1 .left)
 
 returns-2 : tie.Need-returns-2 Inv-loop μ-loop
 returns-2 c =

@@ -3,8 +3,7 @@ use native.Mathlib.Omega.{arith}
 use Prim.Native.Nat.{_-_, _%_}
 use mathlib.Core.Path.{sym, _∙_}
 use borrow.Author.Needs.{needs}
-use Rattle.list_laws.specs.TestLaws.{not-back}
-use Rattle.dominators.specs.LowerMoves.{not-failing}
+use borrow.Author.Tests.{not-false, not-true}
 use Rattle.telling_moves.specs.TrailTests.{apart-fits, x-target, y-target, dominates-no, lifted-inside, dominates-by}
 use Rattle.telling_moves.proofs.dominates_in.Statement.{statement}
 use Rattle.telling_moves.proofs.dominates_in.Tie as tie
@@ -29,7 +28,7 @@ returns c =
     let p = c .before .before .before .pre in
     let g = c .before .before .before .args in
     let b = c .before .comes-below in
-    dominates-no (p .0) (g .x) (g .y) (p .1) (g .r) (sym (b .ensures) ∙ not-back (b .result) (c .if1 .taken))
+    dominates-no (p .0) (g .x) (g .y) (p .1) (g .r) (sym (b .ensures) ∙ not-true (b .result) (c .if1 .taken))
 
 cast-t : tie.Need-cast-t
 cast-t c = search needs
@@ -59,7 +58,7 @@ apart-at-requires c κs =
     let g = c .before .before .before .before .args in
     let b = c .before .before .comes-below in
     apart-fits (p .0) (g .y % 65536) (c .find-lifted .result) (y-target (p .0) (g .x) (g .y) (p .1))
-    (lifted-inside (p .0) (g .x) (g .y) (p .1) (sym (b .ensures) ∙ not-failing (b .result) (c .before .if1 .left))
+    (lifted-inside (p .0) (g .x) (g .y) (p .1) (sym (b .ensures) ∙ not-false (b .result) (c .before .if1 .left))
     (c .find-lifted .result) (c .find-lifted .ensures))
 
 returns-2 : tie.Need-returns-2
@@ -68,7 +67,7 @@ returns-2 c =
     let g = c .before .before .before .before .before .args in
     let b = c .before .before .before .comes-below in
     let f = c .before .find-lifted in
-    dominates-by (p .0) (g .x) (g .y) (p .1) (sym (b .ensures) ∙ not-failing (b .result) (c .before .before .if1 .left))
+    dominates-by (p .0) (g .x) (g .y) (p .1) (sym (b .ensures) ∙ not-false (b .result) (c .before .before .if1 .left))
     (f .result) (f .ensures) (g .r) (c .apart-at .result) (c .apart-at .ensures)
 
 pub dominates-in-spec : {M : Type 1} → statement M

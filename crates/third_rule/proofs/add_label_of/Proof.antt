@@ -9,6 +9,14 @@ use Rattle.third_rule.specs.ThirdRuleLaws.{first-new, by-first, not-by-f
 use Rattle.third_rule.proofs.add_label_of.Statement.{statement}
 use Rattle.third_rule.proofs.add_label_of.Tie as tie
 
+-- ---- the stages of the function, each from a later one
+abbrev start-of-label-at : tie.After-label-at → tie.Start
+start-of-label-at s = s .before .before .before .before .before .before
+
+abbrev label-at-of-add-to-all : tie.After-add-to-all → tie.After-label-at
+label-at-of-add-to-all s = s .before .before
+
+-- ---- what is left to show
 first-with-label-requires : tie.Need-first-with-label-requires
 first-with-label-requires c κs = search needs
 
@@ -32,12 +40,14 @@ same-length c = search needs
 
 returns : tie.Need-returns
 returns c =
-    let b = c .before .before .before .before .before .before .before .before .before .before in
+    let at-add-to-all = c .before .before in
+    let at-label-at = label-at-of-add-to-all at-add-to-all in
+    let b = start-of-label-at at-label-at in
     let g = b .args in
-    let m = c .before .before .add-to-all in
+    let m = at-add-to-all .add-to-all in
     by-first (g .b) (g .work .now) (g .s) (b .pre .0) (g .j) (b .pre .1) (m .last .0) (m .result)
     (subst (λ (x : ℕ). Added (BeforePlace (g .work .now) (g .b .first) (g .j) x) (g .b) (g .work .now) (g .s) (m .last .0) (m .result))
-    (c .before .before .before .before .label-at .ensures) (m .ensures))
+    (at-label-at .label-at .ensures) (m .ensures))
 
 same-length-2 : tie.Need-same-length-2
 same-length-2 c = search needs

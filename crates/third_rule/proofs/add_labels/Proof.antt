@@ -16,6 +16,20 @@ Inv-loop w₀ b end run₀ j₀ w run j =
 abbrev μ-loop : tie.MeasureT-loop
 μ-loop w₀ b end run₀ j₀ w run j = end - j
 
+-- ---- the stages of the function, each from a later one
+abbrev start-of-at-loop : tie.At-loop Inv-loop μ-loop → tie.Start Inv-loop μ-loop
+start-of-at-loop s = s .before .before
+
+abbrev at-loop-of-in-loop : tie.In-loop Inv-loop μ-loop → tie.At-loop Inv-loop μ-loop
+at-loop-of-in-loop s = s .before
+
+abbrev in-loop-of-add-label-of : tie.After-add-label-of Inv-loop μ-loop → tie.In-loop Inv-loop μ-loop
+in-loop-of-add-label-of s = s .before .before
+
+abbrev add-label-of-of-r : tie.After-r Inv-loop μ-loop → tie.After-add-label-of Inv-loop μ-loop
+add-label-of-of-r s = s .before .before .before .before
+
+-- ---- what is left to show
 loop-holds : tie.Need-loop-holds Inv-loop μ-loop
 loop-holds c =
     let g = c .before .args in
@@ -39,10 +53,12 @@ same-length c = search needs
 
 returns : tie.Need-returns Inv-loop μ-loop
 returns c =
-    let b = c .before .before .before .before .before .before .before .before .before in
+    let at-add-label-of = c .before .before .before .before in
+    let at-loop = at-loop-of-in-loop (in-loop-of-add-label-of at-add-label-of) in
+    let b = start-of-at-loop at-loop in
     let g = b .args in
-    let l = c .before .before .before .before .before .before .before .loop in
-    let r = c .before .before .before .before .add-label-of in
+    let l = at-loop .loop in
+    let r = at-add-label-of .add-label-of in
     over-then (b .pre) (l .inv .2 .kept)
     (answer-over (ByFirst (l .work) (g .b .first) (l .run) (l .j)) (g .b) (l .work) (l .run) (r .last .0) (r .result)
     (c .enum-told .given .1) (r .ensures))
@@ -55,12 +71,16 @@ loop-less c = search needs
 
 loop-again : tie.Need-loop-again Inv-loop μ-loop
 loop-again c =
-    let b = c .before .before .before .before .before .before .before .before .before .before in
+    let at-r = c .before in
+    let at-add-label-of = add-label-of-of-r at-r in
+    let at-in-loop = in-loop-of-add-label-of at-add-label-of in
+    let at-loop = at-loop-of-in-loop at-in-loop in
+    let b = start-of-at-loop at-loop in
     let g = b .args in
-    let l = c .before .before .before .before .before .before .before .before .loop in
-    let r = c .before .before .before .before .before .add-label-of in
-    let k = c .before .r .given in
-    let h : l .j < g .s .moves = c .before .before .before .before .before .before .before .loop-test .taken in (
+    let l = at-loop .loop in
+    let r = at-add-label-of .add-label-of in
+    let k = at-r .r .given in
+    let h : l .j < g .s .moves = at-in-loop .loop-test .taken in (
       omega (arith, l .inv .0),
       omega arith,
       earlier-next (g .b) (g .work .now) (g .s) (b .pre) (l .j) (l .work) (l .run) (r .last .0) (k .0 .0) (l .inv .0) h (l .inv .2)

@@ -12,6 +12,23 @@ use Rattle.third_rule.proofs.add_to.Statement.{statement}
 use Rattle.sheets.specs.Sheet as spec
 use Rattle.third_rule.proofs.add_to.Tie as tie
 
+-- ---- the stages of the function, each from a later one
+abbrev start-of-key-of : tie.After-key-of → tie.Start
+start-of-key-of s = s .before .before .before .before .before .before .before
+
+abbrev key-of-of-configuration-of : tie.After-configuration-of → tie.After-key-of
+key-of-of-configuration-of s = s .before
+
+abbrev configuration-of-of-add : tie.After-add → tie.After-configuration-of
+configuration-of-of-add s = s .before .before .before
+
+abbrev add-of-numbers : tie.After-numbers → tie.After-add
+add-of-numbers s = s .before .before
+
+abbrev numbers-of-note-member : tie.After-note-member → tie.After-numbers
+numbers-of-note-member s = s .before
+
+-- ---- what is left to show
 label-at-requires : tie.Need-label-at-requires
 label-at-requires c κs = search needs
 
@@ -51,19 +68,23 @@ same-length-2 c = search needs
 
 returns-2 : tie.Need-returns-2
 returns-2 c =
-    let b = c .before .before .before .before .before .before .before .before .before in
+    let at-configuration-of = c .before in
+    let at-key-of = key-of-of-configuration-of at-configuration-of in
+    let b = start-of-key-of at-key-of in
     let g = b .args in
-    let u = c .before .configuration-of in
+    let u = at-configuration-of .configuration-of in
     has-label (g .b) (g .work .now) (g .s) (g .i) (g .label) (b .pre .0) (b .pre .1) (b .pre .2) (b .pre .3)
-    (u .result) (u .ensures .0 ∙ c .before .before .key-of .ensures .1) (c .if2 .taken)
+    (u .result) (u .ensures .0 ∙ at-key-of .key-of .ensures .1) (c .if2 .taken)
 
 add-requires : tie.Need-add-requires
 add-requires c κs =
-    let b = c .before .before .before .before .before .before .before .before .before .before in
+    let at-configuration-of = c .before .before in
+    let at-key-of = key-of-of-configuration-of at-configuration-of in
+    let b = start-of-key-of at-key-of in
     let g = b .args in
-    let u = c .before .before .configuration-of in
+    let u = at-configuration-of .configuration-of in
     sum-in-table (g .b) (g .work .now) (g .s) (g .i) (g .label) (b .pre .0) (b .pre .1) (b .pre .2) (b .pre .3)
-    (u .result) (u .ensures .0 ∙ c .before .before .before .key-of .ensures .1)
+    (u .result) (u .ensures .0 ∙ at-key-of .key-of .ensures .1)
 
 numbers-requires : tie.Need-numbers-requires
 numbers-requires c κs =
@@ -78,18 +99,21 @@ same-length-3 c = search needs
 
 returns-3 : tie.Need-returns-3
 returns-3 c =
-    let d = c .before .before .before .before .before .before .before .before in
-    let b = d .before .before .before .before .before .before .before .before in
+    let at-note-member = c .before .before in
+    let at-numbers = numbers-of-note-member at-note-member in
+    let at-add = add-of-numbers at-numbers in
+    let d = configuration-of-of-add at-add in
+    let b = start-of-key-of (key-of-of-configuration-of d) in
     let g = b .args in
     let u = d .configuration-of in
     let a = d .before .before .before .before .before .label-at in
-    let m = c .before .before .note-member in
+    let m = at-note-member .note-member in
     sum-added (g .b) (g .work .now) (g .s) (g .i) (g .label) (b .pre .0) (b .pre .1) (b .pre .2) (b .pre .3)
     (u .result) (u .ensures .0 ∙ d .before .key-of .ensures .1)
     (subst (λ (x : ℕ). bitAnd x (g .label) ≡ x) (a .ensures) (d .before .before .before .before .if1 .left))
     (m .last .0) (m .result)
     (subst (λ (x : spec.Configuration). EnteredAs (g .work .now) (g .b .first) (g .s) (g .b .caps) x (m .last .0) (m .result))
-    (c .before .before .before .numbers .ensures .1 ∙ ap configuration (c .before .before .before .before .before .add .ensures .held))
+    (at-numbers .numbers .ensures .1 ∙ ap configuration (at-add .add .ensures .held))
     (m .ensures))
 
 pub add-to-spec : {M : Type 1} → statement M

@@ -15,6 +15,20 @@ Inv-loop w₀ j label b run₀ i₀ w run i =
 abbrev μ-loop : tie.MeasureT-loop
 μ-loop w₀ j label b run₀ i₀ w run i = j - i
 
+-- ---- the stages of the function, each from a later one
+abbrev start-of-at-loop : tie.At-loop Inv-loop μ-loop → tie.Start Inv-loop μ-loop
+start-of-at-loop s = s .before .before
+
+abbrev at-loop-of-in-loop : tie.In-loop Inv-loop μ-loop → tie.At-loop Inv-loop μ-loop
+at-loop-of-in-loop s = s .before
+
+abbrev in-loop-of-add-to : tie.After-add-to Inv-loop μ-loop → tie.In-loop Inv-loop μ-loop
+in-loop-of-add-to s = s .before .before
+
+abbrev add-to-of-r : tie.After-r Inv-loop μ-loop → tie.After-add-to Inv-loop μ-loop
+add-to-of-r s = s .before .before .before .before
+
+-- ---- what is left to show
 loop-holds : tie.Need-loop-holds Inv-loop μ-loop
 loop-holds c =
     let g = c .before .args in
@@ -45,10 +59,12 @@ same-length c = search needs
 
 returns : tie.Need-returns Inv-loop μ-loop
 returns c =
-    let b = c .before .before .before .before .before .before .before .before .before in
+    let at-add-to = c .before .before .before .before in
+    let at-loop = at-loop-of-in-loop (in-loop-of-add-to at-add-to) in
+    let b = start-of-at-loop at-loop in
     let g = b .args in
-    let l = c .before .before .before .before .before .before .before .loop in
-    let r = c .before .before .before .before .add-to in
+    let l = at-loop .loop in
+    let r = at-add-to .add-to in
     over-then (b .pre .0) (l .inv .2 .kept)
     (answer-over (AtPlace (l .work) (l .i) (g .label)) (g .b) (l .work) (l .run) (r .last .0) (r .result) (c .enum-told .given .1) (r .ensures))
 
@@ -60,12 +76,16 @@ loop-less c = search needs
 
 loop-again : tie.Need-loop-again Inv-loop μ-loop
 loop-again c =
-    let b = c .before .before .before .before .before .before .before .before .before .before in
+    let at-r = c .before in
+    let at-add-to = add-to-of-r at-r in
+    let at-in-loop = in-loop-of-add-to at-add-to in
+    let at-loop = at-loop-of-in-loop at-in-loop in
+    let b = start-of-at-loop at-loop in
     let g = b .args in
-    let l = c .before .before .before .before .before .before .before .before .loop in
-    let r = c .before .before .before .before .before .add-to in
-    let k = c .before .r .given in
-    let h : l .i < g .j = c .before .before .before .before .before .before .before .loop-test .taken in (
+    let l = at-loop .loop in
+    let r = at-add-to .add-to in
+    let k = at-r .r .given in
+    let h : l .i < g .j = at-in-loop .loop-test .taken in (
       omega (arith, l .inv .0),
       omega arith,
       before-next (g .b) (g .work .now) (g .s) (g .label) (b .pre .0) (l .i) (l .work) (l .run) (r .last .0) (k .0 .0)

@@ -132,20 +132,22 @@ returns-2 c =
     let at-reply-to = reply-to-of-put-step at-put-step in
     let at-other-of = at-reply-to .before in
     let at-take-move = take-move-of-other-of at-other-of in
-    let b = at-take-move in
-    let P = b .before .before .before .before .before .before .before .before .before .pre in
-    let g = b .before .before .before .before .before .before .before .before .before .args in
-    let l = b .before .before .before .before .before .before .before .loop in
-    let a = b .before .before .before .before .apart-at in
-    let t = b .take-move in
+    let at-apart-at = apart-at-of-take-move at-take-move in
+    let at-loop = at-loop-of-apart-at at-apart-at in
+    let at-start = start-of-at-loop at-loop in
+    let P = at-start .pre in
+    let g = at-start .args in
+    let l = at-loop .loop in
+    let a = at-apart-at .apart-at in
+    let t = at-take-move .take-move in
     let o = at-other-of .other-of in
     let y = at-reply-to .reply-to in
     let s = at-put-step .put-step in
     step-alone (g .work .now) (g .n) (g .last) (g .p) (g .q) (P .0) (P .1) (P .2) (l .work) (l .left) (l .right) (l .k) (l .inv)
     (a .result) (t .result .side) (t .result .number) (o .result) (a .ensures) (t .ensures) (o .ensures)
     (y .result) (s .last .0)
-    (b .before .before .before .before .before .before .loop-test .taken) (b .before .before .before .if1 .left) (eqb-false (a .result)
-    (g .last) (b .before .before .if2 .left)) (y .ensures) (s .ensures) (c .if3 .taken)
+    (at-apart-at .before .before .loop-test .taken) (at-take-move .before .before .before .if1 .left) (eqb-false (a .result)
+    (g .last) (at-take-move .before .before .if2 .left)) (y .ensures) (s .ensures) (c .if3 .taken)
 
 next-pair-requires : tie.Need-next-pair-requires Inv-loop μ-loop
 next-pair-requires c κs = search needs
@@ -159,12 +161,14 @@ loop-again c =
     let at-reply-to = reply-to-of-put-step at-put-step in
     let at-other-of = at-reply-to .before in
     let at-take-move = take-move-of-other-of at-other-of in
-    let b = at-take-move in
-    let P = b .before .before .before .before .before .before .before .before .before .pre in
-    let g = b .before .before .before .before .before .before .before .before .before .args in
-    let l = b .before .before .before .before .before .before .before .loop in
-    let a = b .before .before .before .before .apart-at in
-    let t = b .take-move in
+    let at-apart-at = apart-at-of-take-move at-take-move in
+    let at-loop = at-loop-of-apart-at at-apart-at in
+    let at-start = start-of-at-loop at-loop in
+    let P = at-start .pre in
+    let g = at-start .args in
+    let l = at-loop .loop in
+    let a = at-apart-at .apart-at in
+    let t = at-take-move .take-move in
     let o = at-other-of .other-of in
     let y = at-reply-to .reply-to in
     let s = at-put-step .put-step in
@@ -172,8 +176,8 @@ loop-again c =
     step-on (g .work .now) (g .n) (g .last) (g .p) (g .q) (P .0) (P .1) (P .2) (l .work) (l .left) (l .right) (l .k) (l .inv)
     (a .result) (t .result .side) (t .result .number) (o .result) (a .ensures) (t .ensures) (o .ensures)
     (y .result) (s .last .0)
-    (b .before .before .before .before .before .before .loop-test .taken) (b .before .before .before .if1 .left) (eqb-false (a .result)
-    (g .last) (b .before .before .if2 .left)) (y .ensures) (s .ensures) (c .before .if3 .left) (x .result .left) (x .result .right)
+    (at-apart-at .before .before .loop-test .taken) (at-take-move .before .before .before .if1 .left) (eqb-false (a .result)
+    (g .last) (at-take-move .before .before .if2 .left)) (y .ensures) (s .ensures) (c .before .if3 .left) (x .result .left) (x .result .right)
     (x .ensures .0) (x .ensures .1)
 
 same-length-3 : tie.Need-same-length-3 Inv-loop μ-loop

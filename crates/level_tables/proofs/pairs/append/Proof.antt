@@ -4,6 +4,23 @@ use Rattle.level_tables.specs.Pairs.{no-room, stored}
 use Rattle.level_tables.proofs.pairs.append.Statement.{statement}
 use Rattle.level_tables.proofs.pairs.append.Tie as tie
 
+-- ---- the stages of the function, each from a later one
+abbrev count-of-pair-place : tie.After-pair-place → tie.After-count
+count-of-pair-place s = s .before .before .before .before .before
+
+abbrev pair-place-of-pair-place2 : tie.After-pair-place2 → tie.After-pair-place
+pair-place-of-pair-place2 s = s .before .before .before .before .before
+
+abbrev pair-place2-of-put3 : tie.After-put3 → tie.After-pair-place2
+pair-place2-of-put3 s = s .before .before .before .before .before
+
+abbrev put3-of-put4 : tie.After-put4 → tie.After-put3
+put3-of-put4 s = s .before .before .before .before
+
+abbrev count-of-put4 : tie.After-put4 → tie.After-count
+count-of-put4 s = count-of-pair-place (pair-place-of-pair-place2 (pair-place2-of-put3 (put3-of-put4 s)))
+
+-- ---- what is left to show
 count-requires : tie.Need-count-requires
 count-requires c κs = search needs
 
@@ -47,7 +64,7 @@ same-length-2 : tie.Need-same-length-2
 same-length-2 c = search needs
 
 returns-2 : tie.Need-returns-2
-returns-2 c = stored {after = c .before .before .put4 .last .0} (c .before .before .before .before .before .before .before .before .before .before .before .before .before .before .before .before .before .before .before .before .before .count .ensures) (cc)
+returns-2 c = stored {after = c .before .before .put4 .last .0} (count-of-put4 (c .before .before) .count .ensures) (cc)
 
 pub append-spec : {M : Type 1} → statement M
 append-spec =

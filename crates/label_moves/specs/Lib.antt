@@ -1,0 +1,2 @@
+pub mod LabelMoves
+pub mod LabelMoveLaws

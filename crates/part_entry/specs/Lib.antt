@@ -1,0 +1,2 @@
+pub mod PartEntry
+pub mod PartEntryLaws

@@ -1,0 +1,2 @@
+pub mod AnswerFields
+pub mod TextLaws

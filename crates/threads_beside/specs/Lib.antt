@@ -1,0 +1,3 @@
+pub mod ThreadsBeside
+pub mod ThreadsBesideLaws
+pub mod ThreadTakenOut

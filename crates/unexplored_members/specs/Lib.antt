@@ -1,0 +1,2 @@
+pub mod UnexploredMembers
+pub mod UnexploredCount
