@@ -71,7 +71,7 @@ mul-add-place-2 c =
     let b = start-of-add-place (add-place-of-then1 at-then1) in
     let g = b .args in
     let p = b .pre in
-    let m : keptAt (g .work .now) (g .first) (g .j) % 65536 ≤ 512 = omega (arith, at-then1 .if1 .taken, p .2) in
+    let m : keptAt (g .work .now) (g .first) (g .j) % 65536 ≤ 512 = omega (arith, at-then1 .if1 .taken, p .2, p .3) in
     omega (arith, mul-le-mul-right (g .width) m, p .5)
 
 add-place-requires-2 : tie.Need-add-place-requires-2
@@ -82,7 +82,7 @@ add-place-requires-2 c κs =
     let g = b .args in
     let p = b .pre in
     let s = at-add-place .add-place in
-    row-word (keptAt (g .work .now) (g .first) (g .j) % 65536) (g .n) (g .width) (g .i) (length (s .last .0)) (at-then1 .if1 .taken) (p .4)
+    row-word (keptAt (g .work .now) (g .first) (g .j) % 65536) (g .n) (g .width) (g .i) (length (s .last .0)) (omega (arith, at-then1 .if1 .taken, p .3)) (p .4)
     (omega (arith, p .6, place-long (g .sets .now) (s .last .0) (targetAt (g .work .now) (g .first) (g .j) * g .width) (g .i) (s .ensures)))
 
 same-length : tie.Need-same-length
@@ -99,7 +99,7 @@ returns c =
     let s = at-add-place .add-place in
     let t = at-add-place2 .add-place2 in
     watched-both (g .work .now) (g .sets .now) (s .last .0) (t .last .0) (g .width) (g .n) (g .first) (g .j) (g .i) (s .ensures) (t .ensures)
-    (p .3) (at-then1 .if1 .taken) (p .4) (p .6)
+    (p .3) (omega (arith, at-then1 .if1 .taken, p .3)) (p .4) (p .6)
 
 same-length-2 : tie.Need-same-length-2
 same-length-2 c = search needs
