@@ -9,6 +9,7 @@ use Rattle.ask_labels.specs.declared.Labelled.{Labelled}
 use Rattle.list_laws.specs.Frames.{SameOutside}
 use Rattle.label_search.specs.AskLabels.{TableOf, LabelsAre, part}
 use Rattle.work_layout.specs.WorkLayout.{headsAt, listsAt, listsEnd}
+use Rattle.sheets.specs.SheetLimits.{maxFacts}
 
 -- how many entries there are at most
 abbrev pub maxSets : ℕ
@@ -53,7 +54,7 @@ pub record HasRoom (facts : ℕ) (shelf r : Shelf) : Type 0 where
 
 -- what the shelf rests on: a table of closures, a store d of its facts, and a slice that is long enough
 pub record ShelfRoom (facts d : ℕ) (w : List ℕ) : Type 0 where
-  pub few : facts ≤ 12
+  pub few : facts ≤ maxFacts
   pub table : TableOf facts w
   pub store : d < 2 ^ facts
   pub long : listsEnd ≤ length w

@@ -18,17 +18,18 @@ use Rattle.list_laws.specs.Frames.{SameOutside, outside-same, outside-again, ou
 use Rattle.label_search.specs.AskLabels.{LabelsAre, part}
 use Rattle.label_search.specs.LabelScanLaws.{part-agree, labels-agree, table-agree}
 use Rattle.ask_labels.specs.LabelShelf.{maxSets, askedOf, firstOf, endOf, putEntry, EntryAt, Shelved, noEntries, HasRoom, ShelfRoom, LabelsGiven}
-use Rattle.work_layout.specs.WorkLayout.{headsAt, listsAt, listsEnd}
+use Rattle.work_layout.specs.WorkLayout.{headsAt, listsAt, listsEnd, setRoom}
+use Rattle.sheets.specs.SheetLimits.{maxFacts}
 
 -- there are at most 4096 sets
-pub sets-few : (facts : ℕ) → facts ≤ 12 → 2 ^ facts ≤ 4096
+pub sets-few : (facts : ℕ) → facts ≤ maxFacts → 2 ^ facts ≤ setRoom
 sets-few facts h = pow-mono {i = facts} {j = 12} h
 
 -- ---- slices that agree
 -- v is as long as w, and agrees with it in the table and in the shelf
 pub record SameShelf (w v : List ℕ) : Type 0 where
   pub long : length v ≡ length w
-  pub table : (i : ℕ) → i < 4096 → getD v i 0 ≡ getD w i 0
+  pub table : (i : ℕ) → i < setRoom → getD v i 0 ≡ getD w i 0
   pub shelf : (i : ℕ) → headsAt ≤ i → i < listsEnd → getD v i 0 ≡ getD w i 0
 
 module _ (w v : List ℕ) (facts d : ℕ) where
@@ -60,7 +61,7 @@ module _ (w v : List ℕ) (facts d : ℕ) where
           ∙ part-agree w v (firstOf w i) (endOf w i) long (λ k l u. lists k (omega (arith, h .low)) (omega (arith, h .below)))
 
   -- the shelf depends on the table and on its own places only
-  pub shelved-agree : facts ≤ 12 → SameShelf w v → (shelf : Shelf) → Shelved w facts d shelf → Shelved v facts d shelf
+  pub shelved-agree : facts ≤ maxFacts → SameShelf w v → (shelf : Shelf) → Shelved w facts d shelf → Shelved v facts d shelf
   shelved-agree f s shelf h =
       record {
         few = h .few;
@@ -72,22 +73,23 @@ module _ (w v : List ℕ) (facts d : ℕ) where
       }
 
   -- and so do labels that stand there
-  pub labelled-agree : facts ≤ 12 → SameShelf w v → (c first end : ℕ) → listsAt ≤ first → end ≤ listsEnd
+  pub labelled-agree : facts ≤ maxFacts → SameShelf w v → (c first end : ℕ) → listsAt ≤ first → end ≤ listsEnd
       → LabelsAre w facts d c (part w first end) → LabelsAre v facts d c (part v first end)
   labelled-agree f s c first end l u h =
       subst (λ (xs : List ℕ). LabelsAre v facts d c xs)
       (sym (part-agree w v first end (s .long) (λ k a b. s .shelf k (omega arith) (omega arith))))
       (labels-agree v h (λ k b. s .table k (omega (arith, sets-few facts f))))
 
-  -- what the shelf rests on stays where the table does
-  pub room-agree : SameOutside headsAt listsEnd w v → ShelfRoom facts d w → ShelfRoom facts d v
-  room-agree s h =
-      record {
-        few = h .few;
-        table = table-agree v (h .table) (λ i l. s .at i (inl (omega (arith, sets-few facts (h .few)))));
-        store = h .store;
-        long = omega (arith, h .long, s .long);
-      }
+-- what the shelf rests on stays where the table and the length do
+pub room-agree : {facts d : ℕ} {w v : List ℕ} → ShelfRoom facts d w → length v ≡ length w
+    → ((i : ℕ) → i < setRoom → getD v i 0 ≡ getD w i 0) → ShelfRoom facts d v
+room-agree {facts} {v = v} h long table =
+    record {
+      few = h .few;
+      table = table-agree v (h .table) (λ i l. table i (omega (arith, sets-few facts (h .few))));
+      store = h .store;
+      long = omega (arith, h .long);
+    }
 
 -- ---- no entries
 pub shelved-none : (w : List ℕ) (facts d : ℕ) → Shelved w facts d noEntries
@@ -178,7 +180,7 @@ module _ (w v : List ℕ) (facts d c sets used n : ℕ) (base : ShelfRoom facts 
 
   put-table : (k : ℕ) → k < 2 ^ facts → getD put k 0 ≡ getD w k 0
   put-table k l =
-      let b : 2 ^ facts ≤ 4096 = sets-few facts (base .few) in
+      let b : 2 ^ facts ≤ setRoom = sets-few facts (base .few) in
       put-keeps k (omega arith) (inl (omega arith))
 
   put-long : headsAt + 3 * sets + 3 ≤ length v

@@ -13,6 +13,7 @@ ghost use lib.Dec.{eqb};
 ghost use Rattle.label_search.specs.FactsOutside.{outside};
 ghost use Rattle.ask_labels.specs.LabelShelf.{maxSets, noEntries, askedOf, putEntry, Shelved, HasRoom, ShelfRoom, LabelsGiven};
 ghost use Rattle.work_layout.specs.WorkLayout.{listsAt, listsEnd};
+ghost use Rattle.sheets.specs.SheetLimits.{maxFacts};
 
 const MAX_SETS: usize = 64;
 
@@ -56,7 +57,7 @@ fn entry_of(work: &[u32], n: usize, c: u16) -> usize
 
 // A shelf with room for an entry more: this one, or, where it is full, one with no entries.
 fn with_room(facts: u16, shelf: Shelf) -> Shelf
-    requires { ⌜ (facts ≤ 12) × (listsAt + shelf .used ≤ listsEnd) ⌝ }
+    requires { ⌜ (facts ≤ maxFacts) × (listsAt + shelf .used ≤ listsEnd) ⌝ }
     ensures { λ r. ⌜ HasRoom facts shelf r ⌝ }
 {
     let most = sets_of(facts) / 2 + 2;

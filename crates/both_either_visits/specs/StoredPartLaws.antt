@@ -25,9 +25,11 @@ use Rattle.walk_state.specs.declared.Basis.{Basis}
 use Rattle.walk_state.specs.declared.Walk.{Walk}
 use Rattle.walk_state.specs.declared.Walked.{Walked}
 use Rattle.walk_state.specs.declared.Walked.the-variants.{On, Over}
-use Rattle.walk_state.specs.WalkState.{NodesOf, VisitFits, Walking, Covering, OnSheet, TurnOn}
+use Rattle.walk_state.specs.WalkState.{NodesOf, VisitFits, Walking, Covering, OnSheet, TurnOn, TurnOver}
 use Rattle.walk_state.specs.PushedInWalk.{threads-joined, topped, NodesAdded, added-none, entered-added, entered-few, entered-long, entered-packed, entered-walking, added-again, GiveSame, given-of-one, give-same-refl, parts-give, added-turn}
-use Rattle.part_entry.specs.PartEntry.{threadsAt, besideOf, PassedOver, PartStored, PartTooLong, PartAs}
+use Rattle.sheet_types.specs.NodeTable.{openedOf, movablesOf}
+use Rattle.sheet_types.specs.HeldSheet.{openedIn}
+use Rattle.part_entry.specs.PartEntry.{besideOf, PassedOver, PartStored, PartTooLong, PartAs}
 use Rattle.both_either_visits.specs.StoredParts.{NodeKnown, BothTurned, EitherTurned}
 use Rattle.work_layout.specs.WorkLayout.{workEnd, movesAt, pendingAt, pendingEnd}
 
@@ -160,15 +162,15 @@ parts-turn {rank} nodes b e p q k hp hq same f g =
     (λ sheet n. parts-give sheet (b .store) e p q (same sheet n) (f .give sheet n) (g .give sheet n))
 
 -- ---- a both
-module _ {rank : ℕ → ℕ} (counts threads movables : List ℕ) (p q : ℕ) (b : Basis) (v : List ℕ) (s : Walk) (e : NodeBeside)
+module _ {rank : ℕ → ℕ} (table : List ℕ) (p q : ℕ) (b : Basis) (v : List ℕ) (s : Walk) (e : NodeBeside)
     (k : Walking rank v b s) (fit : VisitFits b e) (hp : Part rank (b .nodes) (e .node) p) (hq : Part rank (b .nodes) (e .node) q)
     (high : rank (e .node) + s .top < 64) where
   -- node i beside the threads of node j
   abbrev beside : List Node → ℕ → ℕ → NodeBeside
   beside nodes i j = record { node = i; threads = sortUp (opened nodes j ++ e .threads) }
 
-  beside-is : (nodes : List Node) (i j : ℕ) → threadsAt counts threads j ≡ opened nodes j
-      → besideOf i (threadsAt counts threads j) e ≡ beside nodes i j
+  beside-is : (nodes : List Node) (i j : ℕ) → openedIn (openedOf table) j ≡ opened nodes j
+      → besideOf i (openedIn (openedOf table) j) e ≡ beside nodes i j
   beside-is nodes i j o =
       ap (λ (l : List ℕ). record { node = i; threads = insertAll (e .threads) l }) o
       ∙ ap (λ (l : List ℕ). record { node = i; threads = l }) (insert-all-sorts (e .threads) (opened nodes j) (fit .threads .ascending))
@@ -195,34 +197,44 @@ module _ {rank : ℕ → ℕ} (counts threads movables : List ℕ) (p q : ℕ) (
   first-outside : movesAt + b .first ≤ pendingAt
   first-outside = omega (arith, k .collecting .room .1, k .collecting .room .2, k .collecting .caps .1)
 
-  -- there are too many threads for the first part
-  first-over : (w : List ℕ) → PartTooLong (getD movables p 0) (besideOf p (threadsAt counts threads q) e) (b .caps .threads) v w
-      → BothTurned rank counts threads movables p q b v s e w Over
+  -- there are too many threads for part i beside those of j, whose moves are among those of e
+  part-over : (nodes : List Node) → NodesOf rank b nodes → (i j : ℕ) → i < b .nodes → NodeKnown nodes table i
+      → NodeKnown nodes table j
+      → ((sheet : Sheet) → sheet .nodes ≡ nodes → (m : Move) → List·Memᴰ m (placedMoves sheet (b .store) (beside nodes i j))
+      → List·Memᴰ m (placedMoves sheet (b .store) e))
+      → {u w : List ℕ} → SameOutside (movesAt + b .first) workEnd v u
+      → PartTooLong (getD (movablesOf table) i 0) (besideOf i (openedIn (openedOf table) j) e) (b .caps .threads) u w
+      → TurnOver rank nodes b v s (e ∷ []) w
+  part-over nodes of i j inside ki kj within {u} {w} o a =
+      record {
+        passes = λ g h on c.
+            part-passes nodes b of (beside nodes i j) inside (getD (movablesOf table) i 0) (ki .mark)
+            (subst (λ (x : NodeBeside). PartTooLong (getD (movablesOf table) i 0) x (b .caps .threads) u w) (beside-is nodes i j (kj .opens)) a)
+            g h on c (within (g .sheet) (on .nodes-are));
+        outside = subst (SameOutside (movesAt + b .first) workEnd v) (sym (a .same)) o;
+      }
+
+  first-over : (w : List ℕ) → PartTooLong (getD (movablesOf table) p 0) (besideOf p (openedIn (openedOf table) q) e) (b .caps .threads) v w
+      → BothTurned rank table p q b v s e w Over
   first-over w a = record {
     turned = λ nodes of is kp kq.
-        record {
-          passes = λ g h on c.
-              part-passes nodes b of (beside nodes p q) (hp .inside) (getD movables p 0) (kp .mark)
-              (subst (λ (x : NodeBeside). PartTooLong (getD movables p 0) x (b .caps .threads) v w) (beside-is nodes p q (kq .opens)) a)
-              g h on c
-              (λ m i.
-              subst (List·Memᴰ m) (sym (both-moves nodes of is (g .sheet) (on .nodes-are)))
-              (Memᴰ·append-left (placedMoves (g .sheet) (b .store) (beside nodes q p)) i));
-          outside = subst (SameOutside (movesAt + b .first) workEnd v) (sym (a .same)) (outside-same (movesAt + b .first) workEnd v);
-        };
+        part-over nodes of p q (hp .inside) kp kq
+        (λ sheet n m i.
+        subst (List·Memᴰ m) (sym (both-moves nodes of is sheet n)) (Memᴰ·append-left (placedMoves sheet (b .store) (beside nodes q p)) i))
+        (outside-same (movesAt + b .first) workEnd v) a;
   }
 
   pub both-first-over : (w : List ℕ) (answer : Walked) → answer ≡ Over
-      → PartAs rank (getD movables p 0) (besideOf p (threadsAt counts threads q) e) (b .caps .threads) (rank (e .node)) v s w answer
-      → BothTurned rank counts threads movables p q b v s e w Over
+      → PartAs rank (getD (movablesOf table) p 0) (besideOf p (openedIn (openedOf table) q) e) (b .caps .threads) (rank (e .node)) v s w answer
+      → BothTurned rank table p q b v s e w Over
   both-first-over w answer told a =
-      first-over w (subst (PartAs rank (getD movables p 0) (besideOf p (threadsAt counts threads q) e) (b .caps .threads) (rank (e .node)) v s w) told a)
+      first-over w (subst (PartAs rank (getD (movablesOf table) p 0) (besideOf p (openedIn (openedOf table) q) e) (b .caps .threads) (rank (e .node)) v s w) told a)
 
   -- the first part is stored or passed over, and then the second
   module _ (u : List ℕ) (r : Walk) (answer : Walked) (told : answer ≡ On r)
-      (a : PartAs rank (getD movables p 0) (besideOf p (threadsAt counts threads q) e) (b .caps .threads) (rank (e .node)) v s u answer) where
-    first : PartAs rank (getD movables p 0) (besideOf p (threadsAt counts threads q) e) (b .caps .threads) (rank (e .node)) v s u (On r)
-    first = subst (PartAs rank (getD movables p 0) (besideOf p (threadsAt counts threads q) e) (b .caps .threads) (rank (e .node)) v s u) told a
+      (a : PartAs rank (getD (movablesOf table) p 0) (besideOf p (openedIn (openedOf table) q) e) (b .caps .threads) (rank (e .node)) v s u answer) where
+    first : PartAs rank (getD (movablesOf table) p 0) (besideOf p (openedIn (openedOf table) q) e) (b .caps .threads) (rank (e .node)) v s u (On r)
+    first = subst (PartAs rank (getD (movablesOf table) p 0) (besideOf p (openedIn (openedOf table) q) e) (b .caps .threads) (rank (e .node)) v s u) told a
 
     -- there is room for the second
     pub both-room : (r .top < 64) × (pendingEnd ≤ length u) × ((i : ℕ) → i < r .top → PendingPacked u i)
@@ -233,40 +245,31 @@ module _ {rank : ℕ → ℕ} (counts threads movables : List ℕ) (p q : ℕ) (
           part-packed (λ i l. k .entries i l .packed) first,
         )
 
-    first-added : (nodes : List Node) → NodesOf rank b nodes → NodeKnown nodes counts threads movables p
-        → NodeKnown nodes counts threads movables q → PartAdded rank nodes b (beside nodes p q) v s u r
+    first-added : (nodes : List Node) → NodesOf rank b nodes → NodeKnown nodes table p
+        → NodeKnown nodes table q → PartAdded rank nodes b (beside nodes p q) v s u r
     first-added nodes of kp kq =
-        part-added nodes b of (beside nodes p q) (hp .inside) (getD movables p 0) (kp .mark) k
+        part-added nodes b of (beside nodes p q) (hp .inside) (getD (movablesOf table) p 0) (kp .mark) k
         (beside-fits nodes of p q (hp .inside) (hq .inside)) (hp .lower) (omega arith)
-        (subst (λ (x : NodeBeside). PartAs rank (getD movables p 0) x (b .caps .threads) (rank (e .node)) v s u (On r)) (beside-is nodes p q (kq .opens)) first)
+        (subst (λ (x : NodeBeside). PartAs rank (getD (movablesOf table) p 0) x (b .caps .threads) (rank (e .node)) v s u (On r)) (beside-is nodes p q (kq .opens)) first)
 
     pub both-then : (w : List ℕ) (t : Walked)
-        → PartAs rank (getD movables q 0) (besideOf q (threadsAt counts threads p) e) (b .caps .threads) (rank (e .node)) u r w t
-        → BothTurned rank counts threads movables p q b v s e w t
+        → PartAs rank (getD (movablesOf table) q 0) (besideOf q (openedIn (openedOf table) p) e) (b .caps .threads) (rank (e .node)) u r w t
+        → BothTurned rank table p q b v s e w t
     both-then w (On t) x = record {
       turned = λ nodes of is kp kq.
           let f = first-added nodes of kp kq in
           parts-turn nodes b e (beside nodes p q) (beside nodes q p) k (hp .lower) (hq .lower) (both-moves nodes of is) f
-          (part-added nodes b of (beside nodes q p) (hq .inside) (getD movables q 0) (kq .mark) (f .walking)
+          (part-added nodes b of (beside nodes q p) (hq .inside) (getD (movablesOf table) q 0) (kq .mark) (f .walking)
           (beside-fits nodes of q p (hq .inside) (hp .inside)) (hq .lower)
           (omega (arith, f .top))
-          (subst (λ (y : NodeBeside). PartAs rank (getD movables q 0) y (b .caps .threads) (rank (e .node)) u r w (On t)) (beside-is nodes q p (kp .opens)) x));
+          (subst (λ (y : NodeBeside). PartAs rank (getD (movablesOf table) q 0) y (b .caps .threads) (rank (e .node)) u r w (On t)) (beside-is nodes q p (kp .opens)) x));
     }
     both-then w Over x = record {
       turned = λ nodes of is kp kq.
-          let f = first-added nodes of kp kq in
-          record {
-            passes = λ g h on c.
-                part-passes nodes b of (beside nodes q p) (hq .inside) (getD movables q 0) (kq .mark)
-                (subst (λ (y : NodeBeside). PartTooLong (getD movables q 0) y (b .caps .threads) u w) (beside-is nodes q p (kp .opens)) x)
-                g h on c
-                (λ m i.
-                subst (List·Memᴰ m) (sym (both-moves nodes of is (g .sheet) (on .nodes-are)))
-                (Memᴰ·append-right (placedMoves (g .sheet) (b .store) (beside nodes p q)) i));
-            outside =
-                subst (SameOutside (movesAt + b .first) workEnd v) (sym (x .same))
-                (outside-wider (f .added .outside) (movesAt + b .first) workEnd first-outside (omega arith));
-          };
+          part-over nodes of q p (hq .inside) kq kp
+          (λ sheet n m i.
+          subst (List·Memᴰ m) (sym (both-moves nodes of is sheet n)) (Memᴰ·append-right (placedMoves sheet (b .store) (beside nodes p q)) i))
+          (outside-wider (first-added nodes of kp kq .added .outside) (movesAt + b .first) workEnd first-outside (omega arith)) x;
     }
 
 -- ---- an either

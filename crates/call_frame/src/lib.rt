@@ -10,9 +10,10 @@ use sheet_types::Section;
 use sheet_types::Sheet;
 use work_layout::WORK_END;
 ghost use mathlib.Core.Path.{_≡_};
-ghost use Rattle.node_opening.specs.OpenedNodes.{OpenedTable};
 ghost use Rattle.sheets.specs.WellFormed.{Admissible};
 ghost use Rattle.sheet_types.specs.HeldSheet.{startsIn, sheetOf, nodesIn};
+ghost use Rattle.sheet_types.specs.NodeTable.{nodesOf};
+ghost use Rattle.movable_nodes.specs.NodeTables.{NodeTable};
 ghost use Rattle.comparison.specs.CallLimits.{limits};
 ghost use Rattle.seed_members.specs.Seeds.{CapsFit};
 ghost use Rattle.found_set.specs.FoundSet.{limitsOf, SeedsFit};
@@ -42,7 +43,7 @@ fn begin_set(
     caps: Caps,
 ) -> Begun
     requires { ⌜ CapsFit caps × Admissible (sheetOf sheet)
-        × OpenedTable (nodesIn (sheet .nodes) (sheet .«node_count»)) (sheet .opened) × SeedsFit sheet seeds k ⌝ }
+        × NodeTable (nodesIn (nodesOf (sheet .table)) (sheet .«node_count»)) (sheet .table) × SeedsFit sheet seeds k ⌝ }
     ensures { λ r. ⌜ BegunAs (limitsOf caps) (sheetOf sheet) (startsIn seeds k) (now (work .entry)) (now (work .exit)) r ⌝ }
 {
     if work.len() < WORK_END {

@@ -6,15 +6,16 @@ use lib.ListN.{getD}
 use Rattle.sheets.specs.SheetLimits.{maxStarts}
 use Rattle.sheets.specs.WellFormed.{Admissible}
 use Rattle.sheet_types.specs.HeldSheet.{nodesIn, noConfiguration, sheetOf}
+use Rattle.sheet_types.specs.NodeTable.{nodesOf}
 use Rattle.sheet_types.specs.declared.Configuration.{Configuration}
 use Rattle.sheet_types.specs.declared.Sheet.{Sheet}
-use Rattle.node_opening.specs.OpenedNodes.{OpenedTable}
+use Rattle.movable_nodes.specs.NodeTables.{NodeTable}
 use Rattle.start_reader.specs.StartsFound.{FewThreads}
 
 -- A sheet is held, with two starts of it chosen.
 pub record ChoiceHeld (sheet : Sheet) (left right : ℕ) : Type 0 where
   pub admissible : Admissible (sheetOf sheet)
-  pub opened : OpenedTable (nodesIn (sheet .nodes) (sheet .«node_count»)) (sheet .opened)
+  pub table : NodeTable (nodesIn (nodesOf (sheet .table)) (sheet .«node_count»)) (sheet .table)
   pub threads : FewThreads (sheet .starts) (sheet .«start_count»)
   pub left-start : left < sheet .«start_count»
   pub right-start : right < sheet .«start_count»

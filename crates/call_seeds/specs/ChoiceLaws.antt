@@ -43,7 +43,7 @@ module _ (s : List ℕ) (left right : ℕ) (r : SheetRead) (found : SheetFound (
       let held = found .held n end a in
       record {
         admissible = well;
-        opened = held .opened;
+        table = held .table;
         threads = held .threads;
         left-start = rw (starts-count (r .sheet)) at (chosen .left-there);
         right-start = rw (starts-count (r .sheet)) at (chosen .right-there);

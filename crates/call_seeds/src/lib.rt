@@ -11,10 +11,11 @@ ghost use Rattle.sheet_types.specs.HeldSheet.{noConfiguration};
 ghost use Rattle.comparison.specs.CallLimits.{limits};
 ghost use Rattle.seed_members.specs.Seeds.{CapsFit};
 ghost use Rattle.found_set.specs.FoundSet.{limitsOf};
+ghost use Rattle.sheets.specs.SheetLimits.{maxStarts};
 
 // The start with this number.
 pub fn start_at(starts: [Configuration; 16], k: usize) -> Configuration
-    requires { ⌜ k < 16 ⌝ }
+    requires { ⌜ k < maxStarts ⌝ }
     ensures { λ r. ⌜ r ≡ getD starts k noConfiguration ⌝ }
 {
     starts[k]
@@ -22,7 +23,7 @@ pub fn start_at(starts: [Configuration; 16], k: usize) -> Configuration
 
 // The chosen starts as the first two seeds; the other starts stay.
 pub fn chosen_seeds(starts: [Configuration; 16], left: usize, right: usize) -> [Configuration; 16]
-    requires { ⌜ (left < 16) × (right < 16) ⌝ }
+    requires { ⌜ (left < maxStarts) × (right < maxStarts) ⌝ }
     ensures { λ r. ⌜ r ≡ set (set starts 0 (getD starts left noConfiguration)) 1 (getD starts right noConfiguration) ⌝ }
 {
     let p = starts[left];

@@ -44,11 +44,12 @@ use Rattle.class_splits.specs.ClassedPlaces.{chosenIn, Classed, classed-count, 
 use Rattle.round_steps.specs.FirstRound.{storeIn, StoresRise, Founding}
 use Rattle.class_rounds.specs.RoundAtHand.{nobody, TogetherHeld, PresentHeld, SetReady, present-listed, present-round, Stage}
 use Rattle.class_splits.specs.LineTests.{linesHeld}
-use Rattle.round_steps.specs.ChosenMembers.{Rechosen, rechosen-class, rechosen-classed}
+use Rattle.class_splits.specs.ChosenPlaces.{chosen-class, chosen-classed}
+use Rattle.round_steps.specs.ChosenMembers.{Rechosen}
 use Rattle.round_steps.specs.AwakeMembers.{ListFits, NextListed}
 use Rattle.round_steps.specs.SplitRounds.{Splitting, splitting-all}
 use Rattle.class_rounds.specs.NextClasses.{next-together, next-present}
-use Rattle.work_layout.specs.WorkLayout.{workEnd, spansAt, movesAt, dominatorsAt, lineTotalsAt, classesAt, birthsAt, chosenAt, linesAt}
+use Rattle.work_layout.specs.WorkLayout.{workEnd, spansAt, movesAt, dominatorsAt, lineTotalsAt, classesAt, birthsAt, chosenAt, linesAt, memberRoom, moveRoom}
 use Rattle.work_layout.specs.ClassLayout.{classIn, classesIn, bornIn, fromIn}
 
 -- some closed set, in its order, stands in the slice
@@ -110,7 +111,7 @@ pub rounds-held-same : {sheet : Sheet} {set : List Configuration} {v w : List �
     → SameSet v w → ((k : ℕ) → classesAt ≤ k → k < chosenAt → getD w k 0 ≡ getD v k 0) → Classed w n count
     → RoundsHeld sheet set w n m r count
 rounds-held-same {sheet} {set} {v} {w} {n} {m} {r} {count} H s h C =
-    let few : n ≤ 512 = H .ready .held .few .0 in
+    let few : n ≤ memberRoom = H .ready .held .few .0 in
     let le : count ≤ n = classed-count (H .classed) in
     let e : classesIn w n ≡ classesIn v n =
     tabulate-same (classIn w) (classIn v) n (λ i l. h (classesAt + i) (omega arith) (omega arith)) in record {
@@ -162,13 +163,13 @@ stores-rise sheet set w n m R j k h l = go (tested (eqb j k))
 
 module _ (v : List ℕ) (n m : ℕ) (a : List ℕ) (f : Forgotten v m a) (b : List ℕ) (count : ℕ) (F : Founding a n b count)
     (d awake : List ℕ) (C : Rechosen b n awake n d) (ws : List ℕ) (width : ℕ) (list : List ℕ) (all : (j : ℕ) → j < n → getD list j 0 ≡ j) where
-  first-now : (sheet : Sheet) (set : List Configuration) → SetReady sheet set a n m → n ≤ 512 → DominatorsKept sheet set a n (classesIn d n)
+  first-now : (sheet : Sheet) (set : List Configuration) → SetReady sheet set a n m → n ≤ memberRoom → DominatorsKept sheet set a n (classesIn d n)
       → RoundNow sheet set d ws width n list n 0 count
   first-now sheet set R few D = record {
     present = present-founders (λ (i : ℕ). i < length set) (TogetherHeld sheet set) (fromIn d) (bornIn d) count (classIn d)
         (λ c l. ap (λ (x : ℕ). x % 65536) (birth c l ∙ F .founders c l))
         (λ i l. omega (arith, class i (omega (arith, size)), F .classed .known i (omega (arith, size))))
-        (λ c l. let x = rechosen-classed C few (F .classed) in
+        (λ c l. let x = chosen-classed C (λ i p. p .0) few (F .classed) in
         (chosenIn d c, omega (arith, size, x .chosen-in c l), x .chosen-of c l))
         (λ i j li lj. (
           (λ e. store i (omega (arith, size))
@@ -190,7 +191,7 @@ module _ (v : List ℕ) (n m : ℕ) (a : List ℕ) (f : Forgotten v m a) (b : Li
       size = held-count sheet set a n m (R .held)
 
       class : (i : ℕ) → i < n → classIn d i ≡ classIn b i
-      class i l = rechosen-class C i (omega arith)
+      class i l = chosen-class C i (omega arith)
 
       birth : (c : ℕ) → c < count → getD d (birthsAt + c) 0 ≡ getD b (birthsAt + c) 0
       birth c l = C .only .at (birthsAt + c) (inl (omega (arith, F .count-fits)))
@@ -200,12 +201,12 @@ module _ (v : List ℕ) (n m : ℕ) (a : List ℕ) (f : Forgotten v m a) (b : Li
 
   pub refining-first : Ready v n m → Refining v n m d ws width list n 0 count
   refining-first Y =
-      let low : m ≤ 4096 = Y .ready .held .few .1 in
-      let few : n ≤ 512 = Y .ready .held .few .0 in
+      let low : m ≤ moveRoom = Y .ready .held .few .1 in
+      let few : n ≤ memberRoom = Y .ready .held .few .0 in
       let s : SameSet v a = same-set-low (omega arith) (f .outside) in record {
         same-set = same-set-trans s (same-set-trans (same-set-high (omega arith) (F .only)) (same-set-high (omega arith) (C .only)));
         at-end = λ k h. C .only .at k (inr (omega arith)) ∙ F .only .at k (inr (omega arith)) ∙ f .outside .at k (inr (omega arith));
-        classed = rechosen-classed C few (F .classed);
+        classed = chosen-classed C (λ i p. p .0) few (F .classed);
         listed = record {
           few = omega arith;
           below = λ j l. omega (arith, all j l);
@@ -215,6 +216,18 @@ module _ (v : List ℕ) (n m : ℕ) (a : List ℕ) (f : Forgotten v m a) (b : Li
         now = λ sheet set R.
             first-now sheet set (ready-same R s) few (forgotten-held sheet set v a n m (classesIn d n) (R .held) f .1);
       }
+
+-- the classes of the slice, where they are those of a round
+ready-round : {sheet : Sheet} {set : List Configuration} {w : List ℕ} {n m r : ℕ} (R : SetReady sheet set w n m)
+    → Sharing sheet (R .wf) set (R .closed) (classesIn w n) r → RoundHeld sheet set (classesIn w n) w n m r
+ready-round R sharing = record {
+  held = R .held;
+  wf = R .wf;
+  closed = R .closed;
+  ascends = R .ascends;
+  classes-are = refl;
+  sharing = sharing;
+}
 
 -- ---- one round more
 module _ (v : List ℕ) (n m : ℕ) (w ws : List ℕ) (width : ℕ) (list : List ℕ) (k r count : ℕ) (G : Refining v n m w ws width list k r count) where
@@ -226,14 +239,7 @@ module _ (v : List ℕ) (n m : ℕ) (w ws : List ℕ) (width : ℕ) (list : List
     now = G .now sheet set R
 
     round-held : RoundHeld sheet set (classesIn w n) w n m r
-    round-held = record {
-      held = here .held;
-      wf = here .wf;
-      closed = here .closed;
-      ascends = here .ascends;
-      classes-are = refl;
-      sharing = present-round sheet set w n m count r here (now .present);
-    }
+    round-held = ready-round here (present-round sheet set w n m count r here (now .present))
 
   pub refining-shape : Ready v n m → Shape w n
   refining-shape Y =
@@ -243,14 +249,14 @@ module _ (v : List ℕ) (n m : ℕ) (w ws : List ℕ) (width : ℕ) (list : List
 
   -- ---- u has the lines of all members
   module _ (u us : List ℕ) (L : SetLined w ws width n list k u us) where
-    small : (sheet : Sheet) (set : List Configuration) → SetReady sheet set v n m → (n ≤ 512) × (count ≤ 512)
+    small : (sheet : Sheet) (set : List Configuration) → SetReady sheet set v n m → (n ≤ memberRoom) × (count ≤ memberRoom)
     small sheet set R = (R .held .few .0, omega (arith, R .held .few .0, classed-count (G .classed)))
 
     module _ (sheet : Sheet) (set : List Configuration) (R : SetReady sheet set v n m) where
       lined-now : DominatorsKept sheet set u n (classesIn w n)
           × ((i : ℕ) → i < n → InList list k i ⊎ LinesKept sheet set (classesIn w n) w ws width n i
           → LinesKept sheet set (classesIn w n) u us width n i)
-      lined-now = L .lines sheet set (classesIn w n) m r (round-held sheet set R) (now sheet set R .kept)
+      lined-now = let x = L .lines sheet set (classesIn w n) m r (round-held sheet set R) (now sheet set R .kept) in (x .0, x .1)
 
       ready-now : (i : ℕ) → i < n → LinesKept sheet set (classesIn w n) u us width n i
       ready-now i l = go (now sheet set R .rest i l)
@@ -285,7 +291,7 @@ module _ (v : List ℕ) (n m : ℕ) (w ws : List ℕ) (width : ℕ) (list : List
               inr (lines-left i l (x .own) ∙ x .alike
               ∙ sym (ap (linesHeld u) f ∙ lines-left (chosenIn w (classIn w i)) (G .classed .chosen-in (classIn w i) b) (x .chosen)))
 
-    birth-same : count ≤ 512 → (c : ℕ) → c < count → getD u (birthsAt + c) 0 ≡ getD w (birthsAt + c) 0
+    birth-same : count ≤ memberRoom → (c : ℕ) → c < count → getD u (birthsAt + c) 0 ≡ getD w (birthsAt + c) 0
     birth-same h c l = L .only .at-classes (birthsAt + c) (omega arith) (omega arith)
 
     stage : (sheet : Sheet) (set : List Configuration) → SetReady sheet set v n m → Stage sheet set u n m r count
@@ -304,7 +310,7 @@ module _ (v : List ℕ) (n m : ℕ) (w ws : List ℕ) (width : ℕ) (list : List
     pub refining-classed : Ready v n m → Classed u n count
     refining-classed Y = stage (Y .sheet) (Y .set) (Y .ready) .classed
 
-    pub refining-lines : Ready v n m → (j : ℕ) → j < n → firstMove u j + lineTotal u j ≤ 4096
+    pub refining-lines : Ready v n m → (j : ℕ) → j < n → firstMove u j + lineTotal u j ≤ moveRoom
     refining-lines Y j l =
         let S = stage (Y .sheet) (Y .set) (Y .ready) in
         omega (arith, S .lined j l .few, S .ready .held .spans j l, S .ready .held .few .1)
@@ -342,13 +348,13 @@ module _ (v : List ℕ) (n m : ℕ) (w ws : List ℕ) (width : ℕ) (list : List
           there : SetReady sheet set y n m
           there = ready-same R same-there
 
-          few : n ≤ 512
+          few : n ≤ memberRoom
           few = small sheet set R .0
 
           class-there : (i : ℕ) → i < n → classIn y i ≡ classIn x i
           class-there i l = N .only .at (classesAt + i) (inl (omega (arith, few)))
 
-          next-few : next ≤ 512
+          next-few : next ≤ memberRoom
           next-few = omega (arith, classed-count (Z .classed), few)
 
           birth-there : (c : ℕ) → c < next → getD y (birthsAt + c) 0 ≡ getD x (birthsAt + c) 0
@@ -398,14 +404,7 @@ module _ (v : List ℕ) (n m : ℕ) (w ws : List ℕ) (width : ℕ) (list : List
 
           round-there : RoundHeld sheet set (classesIn y n) y n m (r + 1)
           unfolding there ready-same
-          round-there = record {
-            held = there .held;
-            wf = there .wf;
-            closed = there .closed;
-            ascends = there .ascends;
-            classes-are = refl;
-            sharing = sharing-there;
-          }
+          round-there = ready-round there sharing-there
 
           -- ---- a member that is not listed
           module _ (p : ℕ) (l : p < n) (d : InList next-list total p → ⊥) where
@@ -435,7 +434,7 @@ module _ (v : List ℕ) (n m : ℕ) (w ws : List ℕ) (width : ℕ) (list : List
               c : j < moveTotal u p
               c = omega (arith, total-same)
 
-              span : firstMove u p + j < 4096
+              span : firstMove u p + j < moveRoom
               span = omega (arith, c, S .ready .held .spans p l, S .ready .held .few .1)
 
               kept-same : keptAt y (firstMove u p) j ≡ keptAt u (firstMove u p) j

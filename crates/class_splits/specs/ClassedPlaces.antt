@@ -14,7 +14,7 @@ use Rattle.list_laws.specs.Tabulate.{tabulate, tabulate-length}
 use Rattle.list_laws.specs.TabulateLaws.{mem-tabulate, tabulate-mem, distinct-tabulate}
 use Rattle.lists.specs.Lists.{Distinct, one-more}
 use Rattle.list_laws.specs.Counting.{distinct-length}
-use Rattle.work_layout.specs.WorkLayout.{workEnd, classesAt, chosenAt, linesAt}
+use Rattle.work_layout.specs.WorkLayout.{workEnd, classesAt, chosenAt, linesAt, memberRoom}
 use Rattle.work_layout.specs.ClassLayout.{classIn}
 
 -- what a test tells
@@ -77,7 +77,7 @@ module _ {w : List ℕ} {n count : ℕ} (C : Classed w n count) where
           (λ (k : List·Memᴰ a firsts). firsts-below a k) (List·Memᴰ·cases-cons m)
 
 -- only the numbers at the places of classes and chosen members matter
-pub classed-same : {v w : List ℕ} {n count : ℕ} → n ≤ 512 → Classed v n count
+pub classed-same : {v w : List ℕ} {n count : ℕ} → n ≤ memberRoom → Classed v n count
     → ((k : ℕ) → classesAt ≤ k → k < linesAt → getD w k 0 ≡ getD v k 0) → Classed w n count
 classed-same {v} {w} {n} {count} few C h = record {
   known = λ i l. omega (arith, class i l, C .known i l);
@@ -91,7 +91,7 @@ classed-same {v} {w} {n} {count} few C h = record {
     first : (c : ℕ) → c < count → chosenIn w c ≡ chosenIn v c
     first c l = h (chosenAt + c) (omega arith) (omega (arith, classed-count C))
 
-module _ {w : List ℕ} {n count : ℕ} (C : Classed w n count) (few : n ≤ 512) (long : workEnd ≤ length w) (i : ℕ) (l : i < n)
+module _ {w : List ℕ} {n count : ℕ} (C : Classed w n count) (few : n ≤ memberRoom) (long : workEnd ≤ length w) (i : ℕ) (l : i < n)
     (d : chosenIn w (classIn w i) ≡ i → ⊥) where
   -- a chosen member is another place
   not-first : (c : ℕ) → c < count → chosenIn w c ≡ i → ⊥
@@ -123,11 +123,11 @@ module _ {w : List ℕ} {n count : ℕ} (C : Classed w n count) (few : n ≤ 512
       known j m (fails e) = omega (arith, other j (eqb-false j i e), C .known j m)
 
 -- Place i becomes the chosen member of a new class; the places after it may be left out.
-module _ {w : List ℕ} {n count : ℕ} (C : Classed w n count) (i N : ℕ) (l : i < N) (few : N ≤ 512) (room : count < 512)
+module _ {w : List ℕ} {n count : ℕ} (C : Classed w n count) (i N : ℕ) (l : i < N) (few : N ≤ memberRoom) (room : count < memberRoom)
     (long : workEnd ≤ length w)
     (d : (c : ℕ) → c < count → chosenIn w c ≡ i → ⊥) (whole : (j : ℕ) → j < N → (j ≡ i → ⊥) → j < n) (le : n ≤ N)
     (u : List ℕ) (own : classIn u i ≡ count) (first : chosenIn u count ≡ i)
-    (classes : (j : ℕ) → j < 512 → (j ≡ i → ⊥) → classIn u j ≡ classIn w j)
+    (classes : (j : ℕ) → j < memberRoom → (j ≡ i → ⊥) → classIn u j ≡ classIn w j)
     (firsts-same : (c : ℕ) → c < count → chosenIn u c ≡ chosenIn w c) where
   pub classed-new : Classed u N (suc count)
   classed-new = record {

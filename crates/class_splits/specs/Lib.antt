@@ -1,3 +1,4 @@
 pub mod ClassedPlaces
+pub mod ChosenPlaces
 pub mod LineTests
 pub mod MemberSplits

@@ -12,7 +12,7 @@ use Rattle.number_lists.specs.NumberLaws.{numbers-tabulate, numbers-length}
 use Rattle.work_layout.specs.SetLayout.{firstMove}
 use Rattle.round_lines.specs.MemberLinesFound.{lineTotal}
 use Rattle.class_splits.specs.ClassedPlaces.{Tells, chosenIn}
-use Rattle.work_layout.specs.WorkLayout.{workEnd, linesAt}
+use Rattle.work_layout.specs.WorkLayout.{workEnd, linesAt, memberRoom, moveRoom}
 use Rattle.work_layout.specs.ClassLayout.{fromIn}
 
 -- the k numbers from place a on
@@ -25,7 +25,7 @@ linesHeld w i = numbersFrom w (linesAt + firstMove w i) (lineTotal w i)
 
 -- its lines can be read
 abbrev pub LineFits : List ℕ → ℕ → Type 0
-LineFits w i = (i < 512) × (firstMove w i + lineTotal w i ≤ 4096)
+LineFits w i = (i < memberRoom) × (firstMove w i + lineTotal w i ≤ moveRoom)
 
 -- class k came from class c, and its chosen member has the lines of the member at place i
 abbrev pub PartFits : List ℕ → ℕ → ℕ → ℕ → Type 0

@@ -5,34 +5,33 @@ use mathlib.Core.List.{List}
 use Prim.Native.Nat.{ℕ, _+_, _*_, _≤_, _<_}
 use native.Mathlib.Omega.{arith}
 use lib.ListN.{length, set}
+use Rattle.list_laws.specs.PlacesPassed.{FirstPlace}
 use Rattle.work_layout.specs.SetLayout.{firstMove}
 use Rattle.round_lines.specs.MemberLinesFound.{lineTotal}
 use Rattle.class_splits.specs.ClassedPlaces.{Tells, chosenIn, Classed, classed-count, classed-spare}
 use Rattle.class_splits.specs.LineTests.{linesHeld, LineFits, PartFits}
-use Rattle.work_layout.specs.WorkLayout.{workEnd, classesAt, birthsAt, chosenAt}
+use Rattle.work_layout.specs.WorkLayout.{workEnd, classesAt, birthsAt, chosenAt, memberRoom, moveRoom}
 use Rattle.work_layout.specs.ClassLayout.{classIn}
 
--- the part of class c, among those from `old` on, that has the lines of the member at place i; count where there is none
-pub record PartFound (w : List ℕ) (c i old count r : ℕ) : Type 0 where
-  pub within : (old ≤ r) × (r ≤ count)
-  pub found : r < count → PartFits w r c i
-  pub none : r ≡ count → (k : ℕ) → old ≤ k → k < count → PartFits w k c i → ⊥
+-- the first part of class c, among those from `old` on, that has the lines of the member at place i; count where there is none
+abbrev pub PartFound : List ℕ → ℕ → ℕ → ℕ → ℕ → ℕ → Type 0
+PartFound w c i old count r = FirstPlace (λ k. PartFits w k c i → ⊥) (λ k. PartFits w k c i) old count r
 
 -- what giving the member at place i its class needs
 pub record MemberReady (w : List ℕ) (i old count : ℕ) : Type 0 where
   pub n : ℕ
   pub inside : i < n
-  pub few : n ≤ 512
+  pub few : n ≤ memberRoom
   pub long : workEnd ≤ length w
   pub more : old ≤ count
   pub classed : Classed w n count
-  pub lines : (j : ℕ) → j < n → firstMove w j + lineTotal w j ≤ 4096
+  pub lines : (j : ℕ) → j < n → firstMove w j + lineTotal w j ≤ moveRoom
 
 module _ {w : List ℕ} {i old count : ℕ} (R : MemberReady w i old count) where
   pub ready-class : classIn w i < count
   ready-class = R .classed .known i (R .inside)
 
-  pub ready-count : count ≤ 512
+  pub ready-count : count ≤ memberRoom
   ready-count = omega (arith, classed-count (R .classed), R .few)
 
   pub ready-lines : (c : ℕ) → c < count → LineFits w (chosenIn w c)
@@ -47,7 +46,7 @@ module _ {w : List ℕ} {i old count : ℕ} (R : MemberReady w i old count) wher
   pub ready-other : (linesHeld w i ≡ linesHeld w (chosenIn w (classIn w i)) → ⊥) → chosenIn w (classIn w i) ≡ i → ⊥
   ready-other d e = d (ap (linesHeld w) (sym e))
 
-  pub ready-room : (linesHeld w i ≡ linesHeld w (chosenIn w (classIn w i)) → ⊥) → count < 512
+  pub ready-room : (linesHeld w i ≡ linesHeld w (chosenIn w (classIn w i)) → ⊥) → count < memberRoom
   ready-room d = omega (arith, classed-spare (R .classed) i (R .inside) (ready-other d), R .few)
 
 -- what is stored for it
@@ -68,7 +67,7 @@ module _ (w : List ℕ) (round i old count c : ℕ) (is : c ≡ classIn w i) (t 
   differs : t ≡ false → linesHeld w i ≡ linesHeld w (chosenIn w (classIn w i)) → ⊥
   differs h e = T .not-so h (e ∙ sym to-first)
 
-  pub read-room : MemberReady w i old count → t ≡ false → count < 512
+  pub read-room : MemberReady w i old count → t ≡ false → count < memberRoom
   read-room R h = ready-room R (differs h)
 
   pub split-keeps : t ≡ true → MemberSplit w round i old count w count
@@ -77,7 +76,7 @@ module _ (w : List ℕ) (round i old count c : ℕ) (is : c ≡ classIn w i) (t 
   module _ (h : t ≡ false) (k : ℕ) (F : PartFound w c i old count k) where
     pub split-joins : k < count → MemberSplit w round i old count (set w (classesAt + i) k) count
     split-joins l =
-        let x = F .found l in
+        let x = F .here l in
         joins (differs h) k (F .within .0) l (x .0 ∙ is, x .1) refl refl
 
     pub split-begins : count ≤ k → (v : List ℕ)
@@ -85,5 +84,5 @@ module _ (w : List ℕ) (round i old count c : ℕ) (is : c ≡ classIn w i) (t 
         → MemberSplit w round i old count v (count + 1)
     split-begins l v e =
         let ek : k ≡ count = omega (arith, F .within .1) in
-        begins (differs h) (λ p a b f. F .none ek p a b (f .0 ∙ sym is, f .1))
+        begins (differs h) (λ p a b f. F .passed p a (omega (arith, F .within)) (f .0 ∙ sym is, f .1))
         (e ∙ ap₂ (λ (x y : ℕ). set (set (set w (classesAt + i) x) (birthsAt + count) (y * 65536 + round)) (chosenAt + count) i) ek is) refl

@@ -12,11 +12,11 @@ ghost use lib.ListN.{length, set};
 ghost use Rattle.class_splits.specs.ClassedPlaces.{Tells, chosenIn};
 ghost use Rattle.class_splits.specs.LineTests.{numbersFrom, linesHeld, LineFits, PartFits};
 ghost use Rattle.class_splits.specs.MemberSplits.{PartFound, MemberReady, MemberSplit};
-ghost use Rattle.work_layout.specs.WorkLayout.{workEnd, birthsAt, chosenAt};
+ghost use Rattle.work_layout.specs.WorkLayout.{workEnd, birthsAt, chosenAt, memberRoom};
 
 // Stores a new class: the class it came from, the round, and its chosen member.
 pub fn put_class(work: &mut [u32], c: usize, from: u32, round: usize, i: usize)
-    requires { ⌜ (c < 512) × (from < 65536) × (round < 65536) × (i < 512) × (workEnd ≤ length (now work)) ⌝ }
+    requires { ⌜ (c < memberRoom) × (from < 65536) × (round < 65536) × (i < memberRoom) × (workEnd ≤ length (now work)) ⌝ }
     ensures { λ _. ⌜ now (work .exit) ≡ set (set (now (work .entry)) (birthsAt + c) (from * 65536 + round)) (chosenAt + c) i ⌝ }
 {
     work[BIRTHS + c] = from * 65536 + round as u32;
@@ -68,7 +68,7 @@ fn same_lines(work: &[u32], i: usize, j: usize) -> bool
 
 // Whether class k came from class c and its chosen member has the lines of the member at place i.
 fn is_part(work: &[u32], k: usize, c: u32, i: usize) -> bool
-    requires { ⌜ (k < 512) × LineFits (now work) i × LineFits (now work) (chosenIn (now work) k) × (workEnd ≤ length (now work)) ⌝ }
+    requires { ⌜ (k < memberRoom) × LineFits (now work) i × LineFits (now work) (chosenIn (now work) k) × (workEnd ≤ length (now work)) ⌝ }
     ensures { λ r. ⌜ Tells r (PartFits (now (work .entry)) k c i) ⌝ }
 {
     if work[BIRTHS + k] / 65536 != c {
@@ -78,9 +78,9 @@ fn is_part(work: &[u32], k: usize, c: u32, i: usize) -> bool
     same_lines(work, i, f)
 }
 
-// The part of class c, among those from `old` on, that has the lines of the member at place i; count where there is none.
+// The first part of class c, among those from `old` on, that has the lines of the member at place i; count where there is none.
 fn part_of(work: &[u32], c: u32, i: usize, old: usize, count: usize) -> usize
-    requires { ⌜ (old ≤ count) × (count ≤ 512) × LineFits (now work) i × ((k : ℕ) → k < count → LineFits (now work) (chosenIn (now work) k))
+    requires { ⌜ (old ≤ count) × (count ≤ memberRoom) × LineFits (now work) i × ((k : ℕ) → k < count → LineFits (now work) (chosenIn (now work) k))
         × (workEnd ≤ length (now work)) ⌝ }
     ensures { λ r. ⌜ PartFound (now (work .entry)) c i old count r ⌝ }
 {

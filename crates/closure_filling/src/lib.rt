@@ -11,10 +11,11 @@ ghost use Rattle.stores.specs.Stores.{conclusions};
 ghost use Rattle.set_closure.specs.RuleTable.{rulesIn};
 ghost use Rattle.closure_table.specs.ClosureTable.{Closures};
 ghost use Rattle.conclusion_passes.specs.GatheredConclusions.{ConclusionsGathered};
+ghost use Rattle.sheets.specs.SheetLimits.{maxFacts, maxRules};
 
 // The entry of each set: the conclusions of all rules whose premise is inside it, by one pass for each fact.
 fn gather(rules: &[u16; 64], n: usize, facts: u16, work: &mut [u32])
-    requires { ⌜ (n ≤ 32) × (facts ≤ 12) × (2 ^ facts ≤ length (now work)) ⌝ }
+    requires { ⌜ (n ≤ maxRules) × (facts ≤ maxFacts) × (2 ^ facts ≤ length (now work)) ⌝ }
     ensures { λ _. ⌜ ConclusionsGathered (rulesIn (now (rules .entry)) n) facts (2 ^ facts) (now (work .exit))
         × SameOutside 0 (2 ^ facts) (now (work .entry)) (now (work .exit)) ⌝ }
 {
@@ -30,7 +31,7 @@ fn gather(rules: &[u16; 64], n: usize, facts: u16, work: &mut [u32])
 
 // Fills the table from the highest number down: a set grows by all rules whose premise is inside it at once.
 fn fill_by_passes(rules: &[u16; 64], n: usize, facts: u16, work: &mut [u32])
-    requires { ⌜ (n ≤ 32) × (facts ≤ 12) × (2 ^ facts ≤ length (now work)) × (conclusions (rulesIn (now rules) n) < 2 ^ facts) ⌝ }
+    requires { ⌜ (n ≤ maxRules) × (facts ≤ maxFacts) × (2 ^ facts ≤ length (now work)) × (conclusions (rulesIn (now rules) n) < 2 ^ facts) ⌝ }
     ensures { λ _. ⌜ Closures (rulesIn (now (rules .entry)) n) 0 (2 ^ facts) (now (work .exit))
         × (drop (2 ^ facts) (now (work .exit)) ≡ drop (2 ^ facts) (now (work .entry))) ⌝ }
 {
@@ -47,7 +48,7 @@ fn fill_by_passes(rules: &[u16; 64], n: usize, facts: u16, work: &mut [u32])
 // Fills the table with the closure of every set. Few rules are tried one by one for each set; passes over all sets take the
 // same time for any number of rules.
 pub fn fill_closures(rules: &[u16; 64], n: usize, facts: u16, work: &mut [u32])
-    requires { ⌜ (n ≤ 32) × (facts ≤ 12) × (2 ^ facts ≤ length (now work)) × (conclusions (rulesIn (now rules) n) < 2 ^ facts) ⌝ }
+    requires { ⌜ (n ≤ maxRules) × (facts ≤ maxFacts) × (2 ^ facts ≤ length (now work)) × (conclusions (rulesIn (now rules) n) < 2 ^ facts) ⌝ }
     ensures { λ _. ⌜ Closures (rulesIn (now (rules .entry)) n) 0 (2 ^ facts) (now (work .exit))
         × (drop (2 ^ facts) (now (work .exit)) ≡ drop (2 ^ facts) (now (work .entry))) ⌝ }
 {

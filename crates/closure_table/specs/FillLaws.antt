@@ -14,6 +14,7 @@ use Rattle.store_laws.specs.FactSetLaws.{within-trans, within-le}
 use Rattle.stores.specs.Stores.{Rule, Closed, Smallest, conclusions, pass, closure}
 use Rattle.store_laws.specs.StoreLaws.{smallest-unique, pass-above, pass-least, pass-same, closure-smallest, closure-closed, closure-includes, closure-least, closure-same, closure-lt}
 use Rattle.set_closure.specs.RuleTable.{ruleIn, rulesIn}
+use Rattle.set_closure.specs.PassLaws.{PassedTo}
 use Rattle.closure_table.specs.ClosureTable.{Closures, GrownBy}
 
 -- what is closed under rules is closed under the first of them
@@ -27,12 +28,12 @@ closed-fewer sets n k c h closed =
     }
 
 -- what the first rules make of a set, where the set itself is all of it only where it is closed
-pub pass-grown : (sets : List ℕ) (n k s t : ℕ) → k ≤ n → t ≡ pass (rulesIn sets k) s → (t ≡ s → pass (rulesIn sets n) s ≡ s)
-    → GrownBy (rulesIn sets n) s t
-pass-grown sets n k s t h e f =
+pub pass-grown : {sets : List ℕ} {n s k t : ℕ} → PassedTo sets n s k t → (t ≡ s → pass (rulesIn sets n) s ≡ s) → GrownBy (rulesIn sets n) s t
+pass-grown {sets} {n} {s} {k} p f =
     record {
-      above = subst (Within s) (sym e) (pass-above (rulesIn sets k) s);
-      inside = λ c closed w. subst (λ (x : ℕ). Within x c) (sym e) (pass-least (rulesIn sets k) s c (closed-fewer sets n k c h closed) w);
+      above = subst (Within s) (sym (p .made)) (pass-above (rulesIn sets k) s);
+      inside = λ c closed w.
+          subst (λ (x : ℕ). Within x c) (sym (p .made)) (pass-least (rulesIn sets k) s c (closed-fewer sets n k c (p .few) closed) w);
       same = λ q. pass-same (rulesIn sets n) s (f q);
     }
 

@@ -6,18 +6,19 @@ ghost use lib.ListN.{length, drop};
 ghost use Rattle.stores.specs.Stores.{conclusions};
 ghost use Rattle.set_closure.specs.RuleTable.{rulesIn};
 ghost use Rattle.closure_table.specs.ClosureTable.{Closures, GrownBy, ReadClosure};
+ghost use Rattle.sheets.specs.SheetLimits.{maxFacts, maxRules};
 
 // How many sets of that many facts there are.
 pub fn sets_of(facts: u16) -> usize
-    requires { ⌜ facts ≤ 12 ⌝ }
-    ensures { λ r. ⌜ (r ≡ 2 ^ facts) × (r ≤ 4096) ⌝ }
+    requires { ⌜ facts ≤ maxFacts ⌝ }
+    ensures { λ r. ⌜ (r ≡ 2 ^ facts) × (r ≤ 2 ^ maxFacts) ⌝ }
 {
     1 << facts
 }
 
 // The set with the first rule applied that adds to it; the set itself where none does.
 fn grown(rules: &[u16; 64], n: usize, set: u16) -> u16
-    requires { ⌜ n ≤ 32 ⌝ }
+    requires { ⌜ n ≤ maxRules ⌝ }
     ensures { λ r. ⌜ GrownBy (rulesIn (now (rules .entry)) n) set r ⌝ }
 {
     let mut i: usize = 0;
@@ -34,7 +35,7 @@ fn grown(rules: &[u16; 64], n: usize, set: u16) -> u16
 // Fills the table from the highest number down: a set that no rule adds to is its own closure, any other has the closure of
 // what it grows to, which has a higher number.
 pub fn fill_by_rules(rules: &[u16; 64], n: usize, facts: u16, work: &mut [u32])
-    requires { ⌜ (n ≤ 32) × (facts ≤ 12) × (2 ^ facts ≤ length (now work)) × (conclusions (rulesIn (now rules) n) < 2 ^ facts) ⌝ }
+    requires { ⌜ (n ≤ maxRules) × (facts ≤ maxFacts) × (2 ^ facts ≤ length (now work)) × (conclusions (rulesIn (now rules) n) < 2 ^ facts) ⌝ }
     ensures { λ _. ⌜ Closures (rulesIn (now (rules .entry)) n) 0 (2 ^ facts) (now (work .exit))
         × (drop (2 ^ facts) (now (work .exit)) ≡ drop (2 ^ facts) (now (work .entry))) ⌝ }
 {

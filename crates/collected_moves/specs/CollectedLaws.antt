@@ -1,25 +1,23 @@
--- What holds of members and moves that are collected: a move is told from its number, what was collected stays collected as it
--- grows, and stores elsewhere leave it alone.
-use mathlib.Core.Path.{_≡_, refl, sym, ap, ap₂, _∙_, subst}
-use mathlib.Core.Logic.{_⊎_, inl, inr}
+-- What holds of members and moves that are collected: a move is told from its number, and what was collected stays collected as
+-- it grows. What stores elsewhere leave alone is in CollectedFrames.
+use mathlib.Core.Path.{_≡_, refl, sym, ap, _∙_, subst}
 use mathlib.Core.List.{List, [], map, List·Memᴰ, List·Memᴰ·not-nil}
 use Prim.Native.Nat.{ℕ, _+_, _*_, _/_, _%_, _≤_, _<_}
 use native.Mathlib.Omega.{arith}
 use lib.ListN.{length, getD}
-use Rattle.lists.specs.Lists.{Ascends}
 use Rattle.list_laws.specs.Members.{mem-map, map-mem}
 use Rattle.list_laws.specs.Tabulate.{tabulate-same, tabulate-at}
-use Rattle.list_laws.specs.Frames.{SameOutside, outside-same, outside-again, part-same}
+use Rattle.list_laws.specs.Frames.{outside-same, outside-again}
 use Rattle.sheets.specs.Sheet.{Configuration}
 use Rattle.moves.specs.Orders.{Move}
-use Rattle.number_lists.specs.NumberLists.{numberOrder}
-use Rattle.number_lists.specs.NumberLaws.{numbers-none, numbers-none-ascend, numbers-same}
-use Rattle.member_table.specs.MemberTable.{memberIn, membersIn, idIn, Kept}
+use Rattle.number_lists.specs.NumberLaws.{numbers-none, numbers-none-ascend}
+use Rattle.member_table.specs.MemberTable.{memberIn, membersIn, Kept}
 use Rattle.member_table.specs.MemberLaws.{member-id}
 use Rattle.collected_moves.specs.declared.Caps.{Caps}
 use Rattle.collected_moves.specs.declared.Running.{Running}
-use Rattle.collected_moves.specs.CollectedMoves.{memberPart, membersOf, moveIn, moveNumbers, movesOf, Collecting, Grown}
-use Rattle.work_layout.specs.WorkLayout.{workEnd, tableLength, movesAt, membersAt}
+use Rattle.collected_moves.specs.CollectedMoves.{memberPart, moveIn, movesOf, Collecting, Grown}
+use Rattle.work_layout.specs.WorkLayout.{workEnd, movesAt, memberRoom, moveRoom}
+use Rattle.sheets.specs.SheetLimits.{maxThreads}
 
 -- ---- a move by its number
 -- a move from its two parts
@@ -86,66 +84,9 @@ grown-trans u v w first r s t g h =
       outside = outside-again (g .outside) (h .outside);
     }
 
--- ---- stores elsewhere
--- slices of one length that agree from the moves in hand up to the end of the members
-module _ (v w : List ℕ) (first : ℕ) (s : Running) (l : Caps) (c : Collecting v first s l) (e : length w ≡ length v)
-    (h : (i : ℕ) → movesAt + first ≤ i → i < membersAt + tableLength → getD w i 0 ≡ getD v i 0) where
-  pub same-part : memberPart w ≡ memberPart v
-  same-part = part-same v w membersAt (membersAt + tableLength) e (λ i p q. h i (omega (arith, c .room, c .caps)) q)
-
-  pub same-numbers : moveNumbers w first (s .moves) ≡ moveNumbers v first (s .moves)
-  same-numbers =
-      numbers-same v w (movesAt + first) (movesAt + s .moves) e (λ i p q. h i p (omega (arith, c .room, c .caps)))
-
-  pub same-members-of : membersOf w s ≡ membersOf v s
-  same-members-of = ap (λ (p : List ℕ). membersIn p (s .members)) same-part
-
-  pub same-moves-of : movesOf w first s ≡ movesOf v first s
-  same-moves-of =
-      ap₂ (λ (p ys : List ℕ). map (λ (y : ℕ). moveOf (y / 65536) (memberIn p (y % 65536))) ys) same-part same-numbers
-
-  pub collecting-same : Collecting w first s l
-  collecting-same =
-      record {
-        long = omega (arith, c .long);
-        caps = c .caps;
-        kept = subst (λ (p : List ℕ). Kept p (s .members)) (sym same-part) (c .kept);
-        room = c .room;
-        ascending = subst (Ascends (numberOrder .before)) (sym same-numbers) (c .ascending);
-        ids = λ y m. c .ids y (subst (List·Memᴰ y) same-numbers m);
-      }
-
-  -- nothing was lost
-  pub grown-same : SameOutside (movesAt + first) workEnd v w → Grown v first s w s
-  grown-same o =
-      record {
-        members-same = same-members-of;
-        members-grow = omega arith;
-        moves-keep = λ k m. subst (List·Memᴰ k) (sym same-moves-of) m;
-        low = λ j q. (q, ap (λ (p : List ℕ). idIn p j) same-part);
-        outside = o;
-      }
-
--- slices that differ only after the members, or only before the moves in hand, agree there
-pub agree-between : {a b : ℕ} {v w : List ℕ} (first : ℕ) → (membersAt + tableLength ≤ a) ⊎ (b ≤ movesAt + first) → SameOutside a b v w
-    → (i : ℕ) → movesAt + first ≤ i → i < membersAt + tableLength → getD w i 0 ≡ getD v i 0
-agree-between first (inl k) o i p q = o .at i (inl (omega arith))
-agree-between first (inr k) o i p q = o .at i (inr (omega arith))
-
-module _ (v w : List ℕ) (first : ℕ) (s : Running) (l : Caps) (c : Collecting v first s l) {a b : ℕ}
-    (k : (membersAt + tableLength ≤ a) ⊎ (b ≤ movesAt + first)) (o : SameOutside a b v w) where
-  pub collecting-outside : Collecting w first s l
-  collecting-outside = collecting-same v w first s l c (o .long) (agree-between first k o)
-
-  pub outside-members-of : membersOf w s ≡ membersOf v s
-  outside-members-of = same-members-of v w first s l c (o .long) (agree-between first k o)
-
-  pub outside-moves-of : movesOf w first s ≡ movesOf v first s
-  outside-moves-of = same-moves-of v w first s l c (o .long) (agree-between first k o)
-
 -- ---- nothing in hand
 pub collecting-empty : (w : List ℕ) (s : Running) (l : Caps) → workEnd ≤ length w
-    → (l .members ≤ 512) × (l .moves ≤ 4096) × (l .threads ≤ 8) → Kept (memberPart w) (s .members)
+    → (l .members ≤ memberRoom) × (l .moves ≤ moveRoom) × (l .threads ≤ maxThreads) → Kept (memberPart w) (s .members)
     → s .members ≤ l .members → s .moves ≤ l .moves → Collecting w (s .moves) s l
 collecting-empty w s l long caps kept p q =
     record {

@@ -14,7 +14,8 @@ use Rattle.collected_moves.specs.declared.Caps.{Caps}
 use Rattle.collected_moves.specs.declared.Running.{Running}
 use Rattle.collected_moves.specs.declared.Noted.{Noted}
 use Rattle.collected_moves.specs.declared.Noted.the-variants.{On, Over}
-use Rattle.work_layout.specs.WorkLayout.{workEnd, tableLength, movesAt, membersAt}
+use Rattle.work_layout.specs.WorkLayout.{workEnd, tableLength, movesAt, membersAt, memberRoom, moveRoom}
+use Rattle.sheets.specs.SheetLimits.{maxThreads}
 
 -- the part of the slice that holds the members
 abbrev pub memberPart : List ℕ → List ℕ
@@ -40,7 +41,7 @@ movesOf w first s = map (moveIn w) (moveNumbers w first (s .moves))
 -- numbers, each with the id of a member.
 pub record Collecting (w : List ℕ) (first : ℕ) (s : Running) (l : Caps) : Type 0 where
   pub long : workEnd ≤ length w
-  pub caps : (l .members ≤ 512) × (l .moves ≤ 4096) × (l .threads ≤ 8)
+  pub caps : (l .members ≤ memberRoom) × (l .moves ≤ moveRoom) × (l .threads ≤ maxThreads)
   pub kept : Kept (memberPart w) (s .members)
   pub room : (s .members ≤ l .members) × (first ≤ s .moves) × (s .moves ≤ l .moves)
   pub ascending : Ascends (numberOrder .before) (moveNumbers w first (s .moves))

@@ -2,7 +2,7 @@
 -- exactly when round n has them together.
 use mathlib.Core.Path.{_≡_, refl, sym, _∙_, subst}
 use mathlib.Core.Logic.{_↔_}
-use mathlib.Core.Bool.{Bool, true, _&&_, _||_}
+use mathlib.Core.Bool.{Bool, true, false, _&&_, _||_}
 use mathlib.Core.List.{List, List·Memᴰ}
 use Prim.Native.Nat.{ℕ, zero, suc}
 use lib.Dec.{eqb}
@@ -63,23 +63,28 @@ module _ (sheet : Sheet) (wf : WellFormed sheet) (set : List Configuration) (clo
         (and-intro b
         (sh .from-round (m .target) (add sheet (m .label) (r .1)) (closed .targets p m mp mm) (closed .addeds p k m mp (r .2) mm b) (r .4)))
 
+    -- a move that is not redundant is not found so
+    pub redundant-no : (p : Configuration) (m : Move) → List·Memᴰ p set → List·Memᴰ m (moves sheet p)
+        → (Redundant (transitions sheet) (Round (transitions sheet) n) p (m .label) (m .target) → ⊥) → redundant sheet set numbers p m ≡ false
+    redundant-no p m mp mm f = go (tested (redundant sheet set numbers p m))
+      where
+        go : Tested (redundant sheet set numbers p m) → redundant sheet set numbers p m ≡ false
+        go (passes y) = absurd (f (redundant-yes p m mp mm y))
+        go (fails y) = y
+
     pub answered-yes : (p q : Configuration) → List·Memᴰ p set → List·Memᴰ q set
         → answered sheet set numbers p q ≡ true → Answered (transitions sheet) (Round (transitions sheet) n) p q
     answered-yes p q mp mq h b t i r =
-        go (tested (redundant sheet set numbers p (labelled b t))) (all-yes (λ m. redundant sheet set numbers p m || answers sheet set numbers q m) (moves sheet p) h {a = labelled b t} i)
-      where
-        go : Tested (redundant sheet set numbers p (labelled b t)) → (redundant sheet set numbers p (labelled b t) || answers sheet set numbers q (labelled b t)) ≡ true
-            → (u : Configuration) × List·Memᴰ (record { label = b; target = u }) (moves sheet q) × Round (transitions sheet) n t u
-        go (passes y) e = absurd (r (redundant-yes p (labelled b t) mp i y))
-        go (fails y) e =
-            let x = any-yes (λ k. eqb (k .label) b && share set numbers t (k .target)) (moves sheet q) (subst (λ (z : Bool). (z || answers sheet set numbers q (labelled b t)) ≡ true) y e) in
-            let k : Move = x .0 in
-            let l : k .label ≡ b = eqb-true (k .label) b (and-left (eqb (k .label) b) (share set numbers t (k .target)) (x .2)) in (
-              k .target,
-              subst (λ (z : ℕ). List·Memᴰ (record { label = z; target = k .target }) (moves sheet q)) l (x .1),
-              sh .to-round t (k .target) (closed .targets p (labelled b t) mp i) (closed .targets q k mq (x .1))
-                  (and-right (eqb (k .label) b) (share set numbers t (k .target)) (x .2)),
-            )
+        let e = all-yes (λ m. redundant sheet set numbers p m || answers sheet set numbers q m) (moves sheet p) h {a = labelled b t} i in
+        let x = any-yes (λ k. eqb (k .label) b && share set numbers t (k .target)) (moves sheet q)
+        (subst (λ (z : Bool). (z || answers sheet set numbers q (labelled b t)) ≡ true) (redundant-no p (labelled b t) mp i r) e) in
+        let k : Move = x .0 in
+        let l : k .label ≡ b = eqb-true (k .label) b (and-left (eqb (k .label) b) (share set numbers t (k .target)) (x .2)) in (
+          k .target,
+          subst (λ (z : ℕ). List·Memᴰ (record { label = z; target = k .target }) (moves sheet q)) l (x .1),
+          sh .to-round t (k .target) (closed .targets p (labelled b t) mp i) (closed .targets q k mq (x .1))
+              (and-right (eqb (k .label) b) (share set numbers t (k .target)) (x .2)),
+        )
 
     pub answered-test : (p q : Configuration) → List·Memᴰ p set → List·Memᴰ q set
         → Answered (transitions sheet) (Round (transitions sheet) n) p q → answered sheet set numbers p q ≡ true

@@ -9,16 +9,16 @@ use native.Mathlib.Omega.{arith}
 use lib.ListN.{length, getD}
 use lib.Dec.{eqb, ltb}
 use borrow.Author.Tests.{eqb-true, eqb-false, eq-eqb, ltb-true, ltb-false, not-false, not-true}
-use Rattle.list_laws.specs.TestLaws.{and-left, and-right, or-right, or-false, same-test, not-passes, Tested, tested, passes, fails}
+use Rattle.list_laws.specs.TestLaws.{and-intro, and-left, and-right, or-left, or-right, or-false, same-test, not-passes, Tested, tested, passes, fails}
 use Rattle.lists.specs.Lists.{select, Ascends, then-rest}
-use Rattle.list_laws.specs.Members.{mem-select, select-mem, any-no}
+use Rattle.list_laws.specs.Members.{mem-select, select-mem, any-no, all-of}
 use Rattle.list_laws.specs.AscendingLaws.{ascends-head, ascends-tail, not-both, none-before-head, select-ascends}
 use Rattle.move_laws.specs.OrderLaws.{moveOrder}
 use Rattle.sheets.specs.Sheet.{Configuration, Sheet}
 use Rattle.moves.specs.Orders.{Move, moveBefore}
 use Rattle.moves.specs.Moves.{moves}
 use Rattle.comparison.specs.Classes.{classOf, share}
-use Rattle.comparison.specs.Rounds.{redundant, answers, apartIn, resultOf}
+use Rattle.comparison.specs.Rounds.{redundant, answers, answered, apartIn, resultOf}
 use Rattle.comparison.specs.Trail.{Side, left, right, Reply, none, move, TrailStep, highest, highestOf, unanswered, replyTo, after, firstOf, trailFrom, trail}
 use Rattle.comparison_laws.specs.SetLaws.{moves-ascend}
 use Rattle.comparison_laws.specs.ClassLaws.{position-le, position-at, position-before, position-most, position-same}
@@ -139,6 +139,21 @@ module _ (sheet : Sheet) (set : List Configuration) (rs : List (List ℕ)) where
         not-true (redundant sheet set classes p m) (and-left (not (redundant sheet set classes p m)) (not (answers sheet set classes q m)) (x .1)),
         not-true (answers sheet set classes q m) (and-right (not (redundant sheet set classes p m)) (not (answers sheet set classes q m)) (x .1)),
       )
+
+  -- every irredundant move has an answer where none is left without
+  pub unanswered-none : (classes : List ℕ) (p q : Configuration) → unanswered sheet set rs classes p q ≡ [] → answered sheet set classes p q ≡ true
+  unanswered-none classes p q e =
+      all-of (λ a. redundant sheet set classes p a || answers sheet set classes q a) (moves sheet p)
+      (λ a i. go a i (tested (redundant sheet set classes p a)) (tested (answers sheet set classes q a)))
+    where
+      go : (a : Move) → List·Memᴰ a (moves sheet p) → Tested (redundant sheet set classes p a) → Tested (answers sheet set classes q a)
+          → (redundant sheet set classes p a || answers sheet set classes q a) ≡ true
+      go a i (passes h) t = or-left (answers sheet set classes q a) h
+      go a i (fails h) (passes k) = or-right (redundant sheet set classes p a) k
+      go a i (fails h) (fails k) =
+          absurd (List·Memᴰ·not-nil (subst (λ (ms : List Move). List·Memᴰ a ms) e
+          (select-mem (λ b. not (redundant sheet set classes p b) && not (answers sheet set classes q b)) (moves sheet p) {a = a} i
+          (and-intro (not-passes h) (not-passes k)))))
 
   -- a reply is a move of the other with the mover's label
   pub reply-mem : (q : Configuration) (m k : Move) → replyTo sheet set rs q m ≡ move k → List·Memᴰ k (moves sheet q) × (k .label ≡ m .label)

@@ -8,8 +8,8 @@ use native.Mathlib.Omega.{arith}
 use lib.ListN.{length, getD}
 use lib.Dec.{eqb, ltb}
 use borrow.Author.Tests.{eqb-true, eqb-false, eq-eqb, ltb-true, ltb-false}
-use Rattle.list_laws.specs.TestLaws.{true-false, and-left, and-right, and-intro, or-left, or-right, or-false, not-passes, Tested, tested, passes, fails}
-use Rattle.list_laws.specs.Members.{any-yes, any-no, all-of, select-mem}
+use Rattle.list_laws.specs.TestLaws.{true-false, and-left, and-right, and-intro, or-false, not-passes, Tested, tested, passes, fails}
+use Rattle.list_laws.specs.Members.{any-yes, any-no, select-mem}
 use Rattle.lists.specs.Lists.{Ascends}
 use Rattle.list_laws.specs.AscendingLaws.{none-before-head, select-ascends}
 use Rattle.move_laws.specs.OrderLaws.{moveOrder}
@@ -23,10 +23,10 @@ use Rattle.comparison.specs.Trail.{left, right, Reply, none, move, TrailStep, u
 use Rattle.refinement.specs.Refinement.{Transitions, Answered, Round, FirstApart}
 use Rattle.comparison.specs.SheetTransitions.{transitions}
 use Rattle.comparison.specs.Promise.{Tells, Telling, Replied, Walkable, unequal-stores, left-alone, left-replied, right-alone, right-replied}
-use Rattle.comparison_laws.specs.RoundLaws.{ClosedList, labelled, Sharing, sharing, redundant-yes, redundant-test, answered-yes}
+use Rattle.comparison_laws.specs.RoundLaws.{ClosedList, labelled, Sharing, sharing, redundant-no, redundant-test, answered-yes}
 use Rattle.comparison_laws.specs.ResultLaws.{rounds-at}
 use Rattle.comparison_laws.specs.SetLaws.{moves-ascend}
-use Rattle.comparison_laws.specs.TrailLaws.{apart-sym, apart-le, apart-at-most, apart-together, apart-at, unanswered-mem, reply-mem, reply-highest, reply-earliest, reply-none, reply-apart}
+use Rattle.comparison_laws.specs.TrailLaws.{apart-sym, apart-le, apart-at-most, apart-together, apart-at, unanswered-mem, unanswered-none, reply-mem, reply-highest, reply-earliest, reply-none, reply-apart}
 
 module _ (sheet : Sheet) (wf : WellFormed sheet) (set : List Configuration) (closed : ClosedList sheet set) (some : 1 ≤ length set) where
   abbrev T : Transitions
@@ -91,14 +91,9 @@ module _ (sheet : Sheet) (wf : WellFormed sheet) (set : List Configuration) (clo
     tells-listed b u t =
         let m : Move = labelled b u in
         select-mem (λ k. not (redundant sheet set classes p k) && not (answers sheet set classes q k)) (moves sheet p) {a = m} (t .move)
-        (and-intro (not-passes (first (tested (redundant sheet set classes p m))))
+        (and-intro (not-passes (redundant-no sheet wf set closed classes r (sharing-at r l) p m mp (t .move) (t .irredundant)))
         (not-passes (second (tested (answers sheet set classes q m)))))
       where
-        first : Tested (redundant sheet set classes p (labelled b u)) → redundant sheet set classes p (labelled b u) ≡ false
-        first (passes h) =
-            absurd (t .irredundant (redundant-yes sheet wf set closed classes r (sharing-at r l) p (labelled b u) mp (t .move) h))
-        first (fails h) = h
-
         second : Tested (answers sheet set classes q (labelled b u)) → answers sheet set classes q (labelled b u) ≡ false
         second (passes h) =
             let x = any-yes (λ k. eqb (k .label) b && share set classes u (k .target)) (moves sheet q) h in
@@ -128,18 +123,7 @@ module _ (sheet : Sheet) (wf : WellFormed sheet) (set : List Configuration) (clo
     -- where there is none, every irredundant move is answered
     none-answered : unanswered sheet set rs classes p q ≡ [] → Answered T (Round T r) p q
     none-answered e =
-        answered-yes sheet wf set closed classes r (sharing-at r l) p q mp mq
-        (all-of (λ m. redundant sheet set classes p m || answers sheet set classes q m) (moves sheet p)
-        (λ m i. go m i (tested (redundant sheet set classes p m)) (tested (answers sheet set classes q m))))
-      where
-        go : (m : Move) → List·Memᴰ m (moves sheet p) → Tested (redundant sheet set classes p m) → Tested (answers sheet set classes q m)
-            → (redundant sheet set classes p m || answers sheet set classes q m) ≡ true
-        go m i (passes h) t = or-left (answers sheet set classes q m) h
-        go m i (fails h) (passes k) = or-right (redundant sheet set classes p m) k
-        go m i (fails h) (fails k) =
-            absurd (List·Memᴰ·not-nil (subst (λ (ms : List Move). List·Memᴰ m ms) e
-            (select-mem (λ k. not (redundant sheet set classes p k) && not (answers sheet set classes q k)) (moves sheet p) {a = m} i
-            (and-intro (not-passes h) (not-passes k)))))
+        answered-yes sheet wf set closed classes r (sharing-at r l) p q mp mq (unanswered-none sheet set rs classes p q e)
 
     -- ---- their replies
     module _ {m : Move} (im : List·Memᴰ m (unanswered sheet set rs classes p q)) where

@@ -2,7 +2,7 @@
 use mathlib.Core.Path.{_≡_}
 use mathlib.Core.Bool.{cond}
 use mathlib.Core.List.{List, List·Memᴰ}
-use Prim.Native.Nat.{ℕ, _+_, _-_, _/_, _%_, _^_, _≤_, _<_}
+use Prim.Native.Nat.{ℕ, _+_, _-_, _*_, _/_, _%_, _^_, _≤_, _<_}
 use lib.ListN.{length, getD, set}
 use lib.Dec.{ltb}
 use lib.Bits.{bitOr}
@@ -36,3 +36,8 @@ pub record Spread (b bound : ℕ) (before after : List ℕ) : Type 0 where
   pub without : (s : ℕ) → s < bound → s / 2 ^ b % 2 ≡ 0 → getD after s 0 ≡ getD before s 0
   pub having : (s : ℕ) → s < bound → s / 2 ^ b % 2 ≡ 1 → getD after s 0 ≡ bitOr (getD before s 0) (getD before (s - 2 ^ b) 0)
   pub beyond : (s : ℕ) → bound ≤ s → getD after s 0 ≡ getD before s 0
+
+-- of so many blocks those before the q-th are spread, and those from it on are as they were
+pub record BlocksSpread (b blocks q : ℕ) (before after : List ℕ) : Type 0 where
+  pub few : q ≤ blocks
+  pub spread : Spread b (2 * q * 2 ^ b) before after

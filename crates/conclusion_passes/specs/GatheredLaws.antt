@@ -21,7 +21,7 @@ use Rattle.stores.specs.Stores.{Rule, Closed, conclusions}
 use Rattle.set_closure.specs.RuleTable.{ruleIn, rulesIn}
 use Rattle.closure_table.specs.ClosureTable.{GrownBy}
 use Rattle.closure_table.specs.FillLaws.{closed-fewer, grown-lt, putClosure}
-use Rattle.conclusion_passes.specs.GatheredConclusions.{Entry, ConclusionsGathered, United, Spread, putRule}
+use Rattle.conclusion_passes.specs.GatheredConclusions.{Entry, ConclusionsGathered, United, Spread, BlocksSpread, putRule}
 
 -- ---- the facts of a set from fact b on
 next-part : (n b : ℕ) → n / 2 ^ (b + 1) ≡ n / 2 ^ b / 2
@@ -260,7 +260,7 @@ module _ (from half k : ℕ) (before table : List ℕ) (u : United from half k b
       united-next)
 
 -- ---- all blocks
-pub spread-none : (b : ℕ) (table : List ℕ) → Spread b (2 * 0 * 2 ^ b) table table
+spread-none : (b : ℕ) (table : List ℕ) → Spread b (2 * 0 * 2 ^ b) table table
 spread-none b table =
     record {
       long = refl;
@@ -289,7 +289,7 @@ module _ (b q : ℕ) (before table after : List ℕ) (p : Spread b (2 * q * 2 ^ 
       let d : s / 2 ^ b ≡ 2 * q + 1 = ap (λ (n : ℕ). n / 2 ^ b) e ∙ high (2 * q + 1) b (omega (arith, wider)) in
       omega arith
 
-  pub spread-next : Spread b (2 * (q + 1) * 2 ^ b) before after
+  spread-next : Spread b (2 * (q + 1) * 2 ^ b) before after
   spread-next =
       record {
         long = u .long ∙ p .long;
@@ -318,6 +318,21 @@ module _ (b q : ℕ) (before table after : List ℕ) (p : Spread b (2 * q * 2 ^ 
           ap (λ (n : ℕ). getD after n 0) e ∙ u .joined j (omega (arith, wider))
           ∙ ap₂ bitOr (ap (λ (n : ℕ). getD table n 0) (sym e) ∙ p .beyond s (omega arith))
           (ap (λ (n : ℕ). getD table n 0) d ∙ p .beyond (s - 2 ^ b) (omega arith))
+
+-- ---- block after block
+pub blocks-none : {b blocks : ℕ} {table : List ℕ} → BlocksSpread b blocks 0 table table
+blocks-none {b} {table = table} = record { few = omega arith; spread = spread-none b table }
+
+pub blocks-next : {b blocks q : ℕ} {before table after : List ℕ} → BlocksSpread b blocks q before table → q < blocks
+    → United (2 * q * 2 ^ b) (2 ^ b) (2 ^ b) table after → BlocksSpread b blocks (q + 1) before after
+blocks-next {b} {q = q} {before} {table} {after} p l u =
+    record { few = omega arith; spread = spread-next b q before table after (p .spread) u }
+
+pub blocks-all : {b blocks q : ℕ} {before table : List ℕ} → BlocksSpread b blocks q before table → blocks ≤ q
+    → Spread b (2 * blocks * 2 ^ b) before table
+blocks-all {b} {blocks} {q} {before} {table} p h =
+    let e : q ≡ blocks = omega (arith, p .few) in
+    subst (λ (z : ℕ). Spread b (2 * z * 2 ^ b) before table) e (p .spread)
 
 -- the block of two entries with its second one joined
 pub pair-united : (q : ℕ) (table : List ℕ) → 2 * q + 1 < length table

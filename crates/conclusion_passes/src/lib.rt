@@ -8,6 +8,7 @@ ghost use lib.ListN.{length, drop, replicate};
 ghost use Rattle.list_laws.specs.Frames.{SameOutside};
 ghost use Rattle.set_closure.specs.RuleTable.{rulesIn};
 ghost use Rattle.conclusion_passes.specs.GatheredConclusions.{ConclusionsGathered, United, Spread, putRule};
+ghost use Rattle.sheets.specs.SheetLimits.{maxRules, maxFacts};
 
 // No fact in the entry of any set.
 fn clear_sets(work: &mut [u32], size: usize)
@@ -34,7 +35,7 @@ fn put_rule(work: &mut [u32], size: usize, premise: u16, conclusion: u16)
 
 // The entry of each set: the conclusions of the rules whose premise it is.
 pub fn put_rules(rules: &[u16; 64], n: usize, work: &mut [u32], size: usize)
-    requires { ⌜ (n ≤ 32) × (size ≤ length (now work)) ⌝ }
+    requires { ⌜ (n ≤ maxRules) × (size ≤ length (now work)) ⌝ }
     ensures { λ _. ⌜ ConclusionsGathered (rulesIn (now (rules .entry)) n) 0 size (now (work .exit))
         × SameOutside 0 size (now (work .entry)) (now (work .exit)) ⌝ }
 {
@@ -48,7 +49,7 @@ pub fn put_rules(rules: &[u16; 64], n: usize, work: &mut [u32], size: usize)
 
 // Two neighbouring runs of entries: those of the first added to those of the second.
 fn spread_block(work: &mut [u32], from: usize, half: usize)
-    requires { ⌜ (from + 2 * half ≤ length (now work)) × (from + 2 * half ≤ 4096) ⌝ }
+    requires { ⌜ (from + 2 * half ≤ length (now work)) × (from + 2 * half ≤ 2 ^ maxFacts) ⌝ }
     ensures { λ _. ⌜ United from half half (now (work .entry)) (now (work .exit)) ⌝ }
 {
     let mut k: usize = 0;
@@ -60,7 +61,7 @@ fn spread_block(work: &mut [u32], from: usize, half: usize)
 
 // The entry of each set that has the fact, with that of the same set without the fact added.
 fn spread(work: &mut [u32], blocks: usize, fact: u16)
-    requires { ⌜ (fact < 12) × (blocks ≤ 4096) × (2 * blocks * 2 ^ fact ≤ length (now work)) × (2 * blocks * 2 ^ fact ≤ 4096) ⌝ }
+    requires { ⌜ (fact < maxFacts) × (blocks ≤ 2 ^ maxFacts) × (2 * blocks * 2 ^ fact ≤ length (now work)) × (2 * blocks * 2 ^ fact ≤ 2 ^ maxFacts) ⌝ }
     ensures { λ _. ⌜ Spread fact (2 * blocks * 2 ^ fact) (now (work .entry)) (now (work .exit)) ⌝ }
 {
     let half = sets_of(fact);
@@ -98,7 +99,7 @@ fn spread_fours(work: &mut [u32], blocks: usize)
 
 // The same for any fact. Short blocks have loops of their own, which the compiler makes vector code of.
 pub fn spread_fact(work: &mut [u32], blocks: usize, fact: u16)
-    requires { ⌜ (fact < 12) × (blocks ≤ 4096) × (2 * blocks * 2 ^ fact ≤ length (now work)) × (2 * blocks * 2 ^ fact ≤ 4096) ⌝ }
+    requires { ⌜ (fact < maxFacts) × (blocks ≤ 2 ^ maxFacts) × (2 * blocks * 2 ^ fact ≤ length (now work)) × (2 * blocks * 2 ^ fact ≤ 2 ^ maxFacts) ⌝ }
     ensures { λ _. ⌜ Spread fact (2 * blocks * 2 ^ fact) (now (work .entry)) (now (work .exit)) ⌝ }
 {
     match fact {

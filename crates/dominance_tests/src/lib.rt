@@ -8,12 +8,12 @@ ghost use lib.Dec.{eqb};
 ghost use Rattle.stores.specs.Stores.{strictlyBelow, includes};
 ghost use Rattle.work_layout.specs.SetLayout.{memberAt};
 ghost use Rattle.dominance_tests.specs.KeptNumbers.{KeptFits};
-ghost use Rattle.work_layout.specs.WorkLayout.{workEnd};
+ghost use Rattle.work_layout.specs.WorkLayout.{workEnd, memberRoom};
 ghost use Rattle.work_layout.specs.ClassLayout.{classIn};
 
 // Whether move x has a label strictly below that of y, and a target whose store is inside that of y's.
 pub fn comes_below(work: &[u32], x: u32, y: u32) -> bool
-    requires { ⌜ (x % 65536 ≤ 512) × (y % 65536 ≤ 512) × (workEnd ≤ length (now work)) ⌝ }
+    requires { ⌜ (x % 65536 ≤ memberRoom) × (y % 65536 ≤ memberRoom) × (workEnd ≤ length (now work)) ⌝ }
     ensures { λ r. ⌜ r ≡ (strictlyBelow (x / 65536) (y / 65536)
         && includes (memberAt (now (work .entry)) (y % 65536) .store) (memberAt (now (work .entry)) (x % 65536) .store)) ⌝ }
 {
@@ -32,7 +32,7 @@ pub fn comes_below(work: &[u32], x: u32, y: u32) -> bool
 
 // Whether the kept dominating move still dominates a move into t.
 pub fn still_dominated(work: &[u32], kept: u32, t: usize) -> bool
-    requires { ⌜ KeptFits kept × (t ≤ 512) × (workEnd ≤ length (now work)) ⌝ }
+    requires { ⌜ KeptFits kept × (t ≤ memberRoom) × (workEnd ≤ length (now work)) ⌝ }
     ensures { λ r. ⌜ r ≡ (not (eqb (kept % 65536) 65535)
         && eqb (classIn (now (work .entry)) (kept % 65536)) (classIn (now (work .entry)) t)) ⌝ }
 {

@@ -22,7 +22,7 @@ use Rattle.dominators.specs.FoundMembers.{LiftedAt}
 use Rattle.dominators.specs.KeptMoves.{noMove, moveOf, Shows, MoveKept, MemberHeld, span-count, shows-dominates, lifted-shows, not-below-passed}
 use Rattle.dominance_tests.specs.KeptNumbers.{KeptFits}
 use Rattle.dominators.specs.SliceShapes.{keptAt, targetAt, Stands}
-use Rattle.work_layout.specs.WorkLayout.{movesAt, dominatorsAt, classesAt}
+use Rattle.work_layout.specs.WorkLayout.{movesAt, dominatorsAt, classesAt, memberRoom, moveRoom}
 use Rattle.work_layout.specs.ClassLayout.{classIn}
 
 -- move x comes below move y: a label strictly below, and a target whose store is inside
@@ -105,7 +105,7 @@ module _ (w : List ℕ) (n first j k : ℕ) where
               ∙ ne-eqb (classIn w (t .1)) (classIn w (getD w (movesAt + first + j) 0 % 65536)) (t .3)
 
   -- it does
-  pub looked-hit : (at d : ℕ) → n ≤ 512 → at < j → Passing w n first j k at
+  pub looked-hit : (at d : ℕ) → n ≤ memberRoom → at < j → Passing w n first j k at
       → DominatedBy w n (getD w (movesAt + first + at) 0) (getD w (movesAt + first + j) 0) d → (d ≡ 65535 → ⊥)
       → LookedFrom w n first j k (at * 65536 + d)
   looked-hit at d few h P D e =
@@ -258,7 +258,7 @@ module _ (w : List ℕ) (n first j kept : ℕ) (t : ℕ) (is : kept ≡ getD w (
   -- another one is looked for
   pub judged-next : s ≡ false → (from next : ℕ)
       → ((kept % 65536 ≡ 65535 → from ≡ kept / 65536) × ((kept % 65536 ≡ 65535 → ⊥) → from ≡ kept / 65536 + 1))
-      → LookedFrom w n first j from next → dominatorsAt + first + j < length w → first + j < 4096
+      → LookedFrom w n first j from next → dominatorsAt + first + j < length w → first + j < moveRoom
       → Judged w n first j (set w (dominatorsAt + first + j) next) (eqb (next % 65536) 65535)
   judged-next f from next l L h span =
       let e : getD (set w (dominatorsAt + first + j) next) (dominatorsAt + first + j) 0 ≡ next =
@@ -298,7 +298,7 @@ module _ (w : List ℕ) (n x y : ℕ) where
   pub dominated-not : comesBelow w x y ≡ false → DominatedBy w n x y 65535
   dominated-not e = record { fits = λ d. absurd (d refl); none = λ z. inl e; some = λ d. absurd (d refl) }
 
-  module _ (q : ℕ) (few : n ≤ 512) (e : comesBelow w x y ≡ true) (f : LiftedAt w n (y % 65536) (x % 65536) q) where
+  module _ (q : ℕ) (few : n ≤ memberRoom) (e : comesBelow w x y ≡ true) (f : LiftedAt w n (y % 65536) (x % 65536) q) where
     pub dominated-yes : classIn w q ≡ classIn w (y % 65536) → DominatedBy w n x y q
     dominated-yes s = record {
       fits = λ d. f .at-most;

@@ -12,7 +12,7 @@ use Rattle.work_layout.specs.SetLayout.{firstMove, moveTotal, SetHeld}
 use Rattle.kept_classes.specs.RoundLayout.{SameSet, held-same, held-member-same, held-first-same, held-total-same, number-in, held-count}
 use Rattle.dominance_tests.specs.KeptNumbers.{KeptFits}
 use Rattle.dominators.specs.KeptMoves.{DominatorsKept, RoundHeld, MemberHeld}
-use Rattle.work_layout.specs.WorkLayout.{workEnd, spansAt, movesAt, dominatorsAt, lineTotalsAt, classesAt, linesAt}
+use Rattle.work_layout.specs.WorkLayout.{workEnd, spansAt, movesAt, dominatorsAt, lineTotalsAt, classesAt, linesAt, memberRoom, moveRoom}
 use Rattle.work_layout.specs.ClassLayout.{classIn, classesIn}
 
 -- the number that is kept for the move at place j, and the place of its target
@@ -30,7 +30,7 @@ Stands w first j =
 
 -- it stands so where neither it nor the classes change
 pub stands-same : (v w : List ℕ) (first j : ℕ) → keptAt w first j ≡ keptAt v first j → targetAt w first j ≡ targetAt v first j
-    → ((i : ℕ) → i ≤ 512 → classIn w i ≡ classIn v i) → targetAt v first j ≤ 512 → KeptFits (keptAt v first j) → Stands v first j
+    → ((i : ℕ) → i ≤ memberRoom → classIn w i ≡ classIn v i) → targetAt v first j ≤ memberRoom → KeptFits (keptAt v first j) → Stands v first j
     → Stands w first j
 stands-same v w first j ek et c lt lk (inl x) = inl (ek ∙ x)
 stands-same v w first j ek et c lt lk (inr x) =
@@ -43,8 +43,8 @@ stands-same v w first j ek et c lt lk (inr x) =
 -- what reading the `total` moves from `first` on needs
 pub record SpanFits (w : List ℕ) (n first total : ℕ) : Type 0 where
   pub long : workEnd ≤ length w
-  pub few : n ≤ 512
-  pub span : first + total ≤ 4096
+  pub few : n ≤ memberRoom
+  pub span : first + total ≤ moveRoom
   pub targets : (j : ℕ) → j < total → getD w (movesAt + first + j) 0 % 65536 < n
   pub kept : (j : ℕ) → j < total → KeptFits (getD w (dominatorsAt + first + j) 0)
   pub classes : (i : ℕ) → i < n → classIn w i < 65536
@@ -52,7 +52,7 @@ pub record SpanFits (w : List ℕ) (n first total : ℕ) : Type 0 where
 -- that of each of n members
 pub record Shape (w : List ℕ) (n : ℕ) : Type 0 where
   pub long : workEnd ≤ length w
-  pub few : n ≤ 512
+  pub few : n ≤ memberRoom
   pub spans : (i : ℕ) → i < n → SpanFits w n (firstMove w i) (moveTotal w i)
 
 -- a set in the slice has this shape
@@ -126,7 +126,7 @@ lined-then p q = record {
   at-end = λ k h. q .at-end k h ∙ p .at-end k h;
 }
 
-pub span-lined : {first total : ℕ} {v w : List ℕ} → first + total ≤ 4096 → SpanOnly first total v w → LinedOnly v w
+pub span-lined : {first total : ℕ} {v w : List ℕ} → first + total ≤ moveRoom → SpanOnly first total v w → LinedOnly v w
 span-lined h p = record {
   long = p .long;
   at-set = λ k a b. p .between k (omega arith) (omega arith);
@@ -134,7 +134,7 @@ span-lined h p = record {
   at-end = λ k a. p .high k (omega arith);
 }
 
-pub member-lined : {i first total : ℕ} {v w : List ℕ} → i < 512 → first + total ≤ 4096 → MemberOnly i first total v w → LinedOnly v w
+pub member-lined : {i first total : ℕ} {v w : List ℕ} → i < memberRoom → first + total ≤ moveRoom → MemberOnly i first total v w → LinedOnly v w
 member-lined l h p = record {
   long = p .long;
   at-set = λ k a b. p .between k (λ e. omega arith) (omega arith) (omega arith);
@@ -151,16 +151,16 @@ module _ {v w : List ℕ} (o : LinedOnly v w) where
     at-members = λ i h k. o .at-set i (omega arith) (omega arith);
   }
 
-  pub lined-class : (i : ℕ) → i ≤ 512 → classIn w i ≡ classIn v i
+  pub lined-class : (i : ℕ) → i ≤ memberRoom → classIn w i ≡ classIn v i
   lined-class i h = o .at-classes (classesAt + i) (omega arith) (omega arith)
 
-  pub lined-first : (i : ℕ) → i < 512 → firstMove w i ≡ firstMove v i
+  pub lined-first : (i : ℕ) → i < memberRoom → firstMove w i ≡ firstMove v i
   lined-first i h = ap (λ (x : ℕ). x / 65536) (o .at-set (spansAt + i) (omega arith) (omega arith))
 
-  pub lined-total : (i : ℕ) → i < 512 → moveTotal w i ≡ moveTotal v i
+  pub lined-total : (i : ℕ) → i < memberRoom → moveTotal w i ≡ moveTotal v i
   lined-total i h = ap (λ (x : ℕ). x % 65536) (o .at-set (spansAt + i) (omega arith) (omega arith))
 
-  pub lined-classes : (n : ℕ) → n ≤ 512 → classesIn w n ≡ classesIn v n
+  pub lined-classes : (n : ℕ) → n ≤ memberRoom → classesIn w n ≡ classesIn v n
   lined-classes n h = tabulate-same (classIn w) (classIn v) n (λ i l. lined-class i (omega arith))
 
   pub lined-round : {sheet : Sheet} {set : List Configuration} {numbers : List ℕ} {n m r : ℕ} → RoundHeld sheet set numbers v n m r

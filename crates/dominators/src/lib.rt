@@ -13,11 +13,11 @@ ghost use Rattle.dominators.specs.FoundMembers.{FoundAt, LiftedAt};
 ghost use Rattle.dominators.specs.SliceShapes.{SpanFits};
 ghost use Rattle.dominators.specs.DominatorSearch.{DominatedBy, LookedFrom, Judged};
 ghost use Rattle.dominators.specs.ForgottenMoves.{Forgotten};
-ghost use Rattle.work_layout.specs.WorkLayout.{workEnd};
+ghost use Rattle.work_layout.specs.WorkLayout.{workEnd, memberRoom, moveRoom};
 
 // The place of the member of these numbers, by halving.
 pub fn find_member(work: &[u32], n: usize, x: Numbers) -> usize
-    requires { ⌜ (n ≤ 512) × (workEnd ≤ length (now work)) ⌝ }
+    requires { ⌜ (n ≤ memberRoom) × (workEnd ≤ length (now work)) ⌝ }
     ensures { λ r. ⌜ FoundAt (now (work .entry)) n x r ⌝ }
 {
     let mut low: usize = 0;
@@ -36,7 +36,7 @@ pub fn find_member(work: &[u32], n: usize, x: Numbers) -> usize
 
 // The place of the member with the store of member t and the threads of member u.
 pub fn find_lifted(work: &[u32], n: usize, t: usize, u: usize) -> usize
-    requires { ⌜ (n ≤ 512) × (t ≤ 512) × (u ≤ 512) × (workEnd ≤ length (now work)) ⌝ }
+    requires { ⌜ (n ≤ memberRoom) × (t ≤ memberRoom) × (u ≤ memberRoom) × (workEnd ≤ length (now work)) ⌝ }
     ensures { λ r. ⌜ LiftedAt (now (work .entry)) n t u r ⌝ }
 {
     let key = work_layout::key_at(work, u);
@@ -54,7 +54,7 @@ pub fn find_lifted(work: &[u32], n: usize, t: usize, u: usize) -> usize
 
 // Whether move x dominates y in the present classes: the place of the member that shows it, or NONE.
 fn dominated_by(work: &[u32], n: usize, x: u32, y: u32) -> u32
-    requires { ⌜ (n ≤ 512) × (x % 65536 < n) × (y % 65536 < n) × (workEnd ≤ length (now work)) ⌝ }
+    requires { ⌜ (n ≤ memberRoom) × (x % 65536 < n) × (y % 65536 < n) × (workEnd ≤ length (now work)) ⌝ }
     ensures { λ r. ⌜ DominatedBy (now (work .entry)) n x y r ⌝ }
 {
     if !comes_below(work, x, y) {
@@ -104,7 +104,7 @@ pub fn irredundant(work: &mut [u32], n: usize, first: usize, j: usize) -> bool
 
 // No dominating move is known of the first m moves.
 pub fn forget_dominators(work: &mut [u32], m: usize)
-    requires { ⌜ (m ≤ 4096) × (workEnd ≤ length (now work)) ⌝ }
+    requires { ⌜ (m ≤ moveRoom) × (workEnd ≤ length (now work)) ⌝ }
     ensures { λ _. ⌜ Forgotten (now (work .entry)) m (now (work .exit)) ⌝ }
 {
     let mut k: usize = 0;

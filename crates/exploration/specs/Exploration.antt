@@ -21,7 +21,8 @@ use Rattle.walk_state.specs.WalkState.{MemberFits}
 use Rattle.set_order.specs.OrderedSet.{spanFirst, spanTotal, spanMoves, SpanFits}
 use Rattle.unexplored_members.specs.UnexploredMembers.{IsExplored}
 use Rattle.exploration.specs.declared.Plan.{Plan}
-use Rattle.work_layout.specs.WorkLayout.{spansAt}
+use Rattle.work_layout.specs.WorkLayout.{spansAt, memberRoom}
+use Rattle.sheets.specs.SheetLimits.{maxFacts}
 
 -- what stays the same for a member with this store, whose moves begin here
 abbrev pub basisOf : Plan → ℕ → ℕ → Basis
@@ -32,10 +33,10 @@ basisOf plan store first = record { facts = plan .facts; nodes = plan .nodes; st
 pub record Exploring (w : List ℕ) (plan : Plan) (s : Running) : Type 0 where
   pub collecting : Collecting w (s .moves) s (plan .caps)
   pub fit : (x : Configuration) → List·Memᴰ x (membersOf w s) → MemberFits (basisOf plan 0 0) x
-  pub few-facts : plan .facts ≤ 12
+  pub few-facts : plan .facts ≤ maxFacts
   pub table : TableOf (plan .facts) w
   pub spans : (id : ℕ) → id < s .members → (getD w (spansAt + id) 0 ≡ 0) ⊎ SpanFits w (s .members) (s .moves) id
-  pub unused : (id : ℕ) → s .members ≤ id → id < 512 → getD w (spansAt + id) 0 ≡ 0
+  pub unused : (id : ℕ) → s .members ≤ id → id < memberRoom → getD w (spansAt + id) 0 ≡ 0
   pub apart : (i j : ℕ) → i < s .members → j < s .members → IsExplored w i → IsExplored w j → (i ≡ j → ⊥)
       → (spanFirst w i + spanTotal w i ≤ spanFirst w j) ⊎ (spanFirst w j + spanTotal w j ≤ spanFirst w i)
   pub low : (j : ℕ) → j < s .low → (j < s .members) × IsExplored w (idIn (memberPart w) j)

@@ -21,7 +21,7 @@ use Rattle.walk_state.specs.WalkState.{OnSheet}
 use Rattle.exploration.specs.declared.Plan.{Plan}
 use Rattle.unexplored_members.specs.UnexploredMembers.{IsExplored}
 use Rattle.exploration.specs.Exploration.{basisOf, Exploring, ExploredFor}
-use Rattle.work_layout.specs.WorkLayout.{workEnd, spansAt}
+use Rattle.work_layout.specs.WorkLayout.{workEnd, spansAt, memberRoom}
 
 -- the store of a member
 abbrev pub storeIn : List ℕ → ℕ → ℕ
@@ -36,7 +36,7 @@ OnPlan g nodes plan w = OnSheet g nodes (basisOf plan 0 0) w
 pub record MemberOn (nodes : List Node) (plan : Plan) (v : List ℕ) (s : Running) (id : ℕ) (w : List ℕ) (t : Running) (shelf : Shelf) : Type 0 where
   pub exploring : Exploring w plan t
   pub explored : IsExplored w id
-  pub others : (i : ℕ) → i < 512 → (i ≡ id → ⊥) → getD w (spansAt + i) 0 ≡ getD v (spansAt + i) 0
+  pub others : (i : ℕ) → i < memberRoom → (i ≡ id → ⊥) → getD w (spansAt + i) 0 ≡ getD v (spansAt + i) 0
   pub shelved : Shelved w (plan .facts) (storeIn v id) shelf
   pub outside : SameOutside spansAt workEnd v w
   pub explored-for : (g : Growth) → OnPlan g nodes plan v → ExploredFor g v s → ExploredFor g w t

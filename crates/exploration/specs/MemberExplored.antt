@@ -44,11 +44,11 @@ use Rattle.unexplored_members.specs.UnexploredMembers.{spanOf, IsExplored}
 use Rattle.exploration.specs.Exploration.{basisOf, Exploring, Done, Counted, ExploredFor}
 use Rattle.exploration.specs.ExplorationSteps.{OnPlan, storeIn, MemberOn, ExploredOver, MemberExplored}
 use Rattle.exploration.specs.SpanLaws.{fits-carried, spanned, other-span, span-outside, spanned-outside, members-spanned, member-spanned, now-explored, explored-before, own-moves, others-moves, spanned-exploring}
-use Rattle.work_layout.specs.WorkLayout.{workEnd, spansAt, marksAt}
+use Rattle.work_layout.specs.WorkLayout.{workEnd, spansAt, marksAt, setRoom}
 
 -- what is lent of the sheet does not depend on the store or on where moves begin
-pub lent-carried : {rank : ℕ → ℕ} {ks fs ss cs ts ms : List ℕ} {plan : Plan} (d f : ℕ) → NodesLent rank ks fs ss cs ts ms (basisOf plan 0 0)
-    → NodesLent rank ks fs ss cs ts ms (basisOf plan d f)
+pub lent-carried : {rank : ℕ → ℕ} {table : List ℕ} {plan : Plan} (d f : ℕ) → NodesLent rank table (basisOf plan 0 0)
+    → NodesLent rank table (basisOf plan d f)
 lent-carried d f n =
     record {
       few = n .few;
@@ -72,7 +72,7 @@ begun s shelf = record { running = s; shelf = shelf; marks = 0; top = 0 }
 
 module _ {plan : Plan} {v : List ℕ} {s : Running} (ex : Exploring v plan s) where
   -- a slice that is the same before the moves in hand has the same table
-  pub plan-kept : {w : List ℕ} {low high : ℕ} {g : Growth} {nodes : List Node} → 4096 ≤ low → SameOutside low high v w → OnPlan g nodes plan v
+  pub plan-kept : {w : List ℕ} {low high : ℕ} {g : Growth} {nodes : List Node} → setRoom ≤ low → SameOutside low high v w → OnPlan g nodes plan v
       → OnPlan g nodes plan w
   plan-kept h o t =
       let b = sets-few (plan .facts) (ex .few-facts) in

@@ -28,7 +28,7 @@ use Rattle.set_order.specs.OrderedSet.{spanFirst, spanTotal, spanNumbers, spanM
 use Rattle.exploration.specs.declared.Plan.{Plan}
 use Rattle.unexplored_members.specs.UnexploredMembers.{spanOf, IsExplored}
 use Rattle.exploration.specs.Exploration.{basisOf, Exploring}
-use Rattle.work_layout.specs.WorkLayout.{workEnd, spansAt, movesAt, membersAt}
+use Rattle.work_layout.specs.WorkLayout.{workEnd, spansAt, movesAt, membersAt, moveRoom, memberRoom}
 
 -- maps that agree on the elements of a list give the same list
 map-agree : {A B : Type 0} (f h : A → B) (xs : List A) → ((a : A) → List·Memᴰ a xs → f a ≡ h a) → map f xs ≡ map h xs
@@ -45,10 +45,10 @@ fits-carried d f d' f' m =
     }
 
 -- where a span says that moves begin, and how many there are
-span-first : (first end : ℕ) → first ≤ end → end ≤ 4096 → (spanOf first end - 1) / 65536 ≡ first
+span-first : (first end : ℕ) → first ≤ end → end ≤ moveRoom → (spanOf first end - 1) / 65536 ≡ first
 span-first first end h k = omega arith
 
-span-total : (first end : ℕ) → first ≤ end → end ≤ 4096 → (spanOf first end - 1) % 65536 ≡ end - first
+span-total : (first end : ℕ) → first ≤ end → end ≤ moveRoom → (spanOf first end - 1) % 65536 ≡ end - first
 span-total first end h k = omega arith
 
 module _ (plan : Plan) (v : List ℕ) (s : Running) (id : ℕ) (ex : Exploring v plan s) (low : id < s .members)
@@ -57,10 +57,10 @@ module _ (plan : Plan) (v : List ℕ) (s : Running) (id : ℕ) (ex : Exploring v
   abbrev pub spanned : List ℕ
   spanned = set z (spansAt + id) (spanOf (s .moves) (u .moves))
 
-  ends : (s .moves ≤ u .moves) × (u .moves ≤ 4096)
+  ends : (s .moves ≤ u .moves) × (u .moves ≤ moveRoom)
   ends = (standing .collecting .room .1, omega (arith, standing .collecting .room .2, standing .collecting .caps .1))
 
-  few : (s .members ≤ 512) × (u .members ≤ 512) × (id < 512)
+  few : (s .members ≤ memberRoom) × (u .members ≤ memberRoom) × (id < memberRoom)
   few = (ex .collecting .kept .room, standing .collecting .kept .room, omega (arith, ex .collecting .kept .room))
 
   -- ---- the numbers of the slice
@@ -76,11 +76,11 @@ module _ (plan : Plan) (v : List ℕ) (s : Running) (id : ℕ) (ex : Exploring v
   long-same : length spanned ≡ length v
   long-same = length-set z (spansAt + id) (spanOf (s .moves) (u .moves)) ∙ grown .outside .long
 
-  pub other-span : (i : ℕ) → i < 512 → (i ≡ id → ⊥) → getD spanned (spansAt + i) 0 ≡ getD v (spansAt + i) 0
+  pub other-span : (i : ℕ) → i < memberRoom → (i ≡ id → ⊥) → getD spanned (spansAt + i) 0 ≡ getD v (spansAt + i) 0
   other-span i h k = earlier (spansAt + i) (omega arith) (λ e. k (omega arith))
 
-  pub span-outside : SameOutside spansAt (spansAt + 512) z spanned
-  span-outside = outside-set spansAt (spansAt + 512) z (spansAt + id) (spanOf (s .moves) (u .moves)) (omega arith) (omega (arith, few .2))
+  pub span-outside : SameOutside spansAt (spansAt + memberRoom) z spanned
+  span-outside = outside-set spansAt (spansAt + memberRoom) z (spansAt + id) (spanOf (s .moves) (u .moves)) (omega arith) (omega (arith, few .2))
 
   pub spanned-outside : SameOutside spansAt workEnd v spanned
   spanned-outside =
@@ -104,7 +104,7 @@ module _ (plan : Plan) (v : List ℕ) (s : Running) (id : ℕ) (ex : Exploring v
   pub now-explored : IsExplored spanned id
   now-explored = omega (arith, stored)
 
-  pub still-explored : (i : ℕ) → i < 512 → IsExplored v i → IsExplored spanned i
+  pub still-explored : (i : ℕ) → i < memberRoom → IsExplored v i → IsExplored spanned i
   still-explored i h e = go (eqb i id) refl
     where
       go : (b : Bool) → eqb i id ≡ b → IsExplored spanned i

@@ -4,6 +4,7 @@ use ask_labels::Shelf;
 use collected_moves::Caps;
 use collected_moves::Noted;
 use collected_moves::Running;
+use sheet_types::TABLE_END;
 use walk_state::Basis;
 use walk_state::Walk;
 use walk_state::Walked;
@@ -12,7 +13,8 @@ ghost use mathlib.Core.Path.{_≡_};
 ghost use Prim.Native.Nat.{_+_, _<_};
 ghost use lib.ListN.{getD};
 ghost use Rattle.sheet_laws.specs.Ranks.{rankOf};
-ghost use Rattle.movable_nodes.specs.Movability.{nodesHeld};
+ghost use Rattle.sheet_types.specs.NodeTable.{nodesOf};
+ghost use Rattle.sheet_types.specs.HeldSheet.{nodesIn};
 ghost use Rattle.ask_labels.specs.LabelShelf.{Shelved};
 ghost use Rattle.walk_state.specs.WalkState.{NodesLent};
 ghost use Rattle.exploration.specs.Exploration.{basisOf, Exploring};
@@ -29,22 +31,15 @@ pub struct Plan {
 // One member: its moves, and what is added.
 fn explore_member(
     work: &mut [u32],
-    kinds: &[u8; 64],
-    firsts: &[u16; 64],
-    seconds: &[u16; 64],
-    counts: &[u8; 64],
-    threads: &[u8; 512],
-    movables: &[u8; 64],
+    table: &[u8; TABLE_END],
     plan: Plan,
     id: usize,
     s: Running,
     shelf: Shelf,
 ) -> Walked
-    requires { ⌜ NodesLent rankOf (now kinds) (now firsts) (now seconds) (now counts) (now threads) (now movables) (basisOf plan 0 0)
-        × Exploring (now work) plan s × (id < s .members) × (getD (now work) (spansAt + id) 0 ≡ 0)
-        × Shelved (now work) (plan .facts) (storeIn (now work) id) shelf ⌝ }
-    ensures { λ r. ⌜ MemberExplored (nodesHeld (now (kinds .entry)) (now (firsts .entry)) (now (seconds .entry)) (plan .nodes)) plan
-        (now (work .entry)) s id (now (work .exit)) r ⌝ }
+    requires { ⌜ NodesLent rankOf (now table) (basisOf plan 0 0) × Exploring (now work) plan s × (id < s .members)
+        × (getD (now work) (spansAt + id) 0 ≡ 0) × Shelved (now work) (plan .facts) (storeIn (now work) id) shelf ⌝ }
+    ensures { λ r. ⌜ MemberExplored (nodesIn (nodesOf (now (table .entry))) (plan .nodes)) plan (now (work .entry)) s id (now (work .exit)) r ⌝ }
 {
     let first = s.moves;
     let x = member_table::key_of(work, MEMBERS, s.members, id);
@@ -63,18 +58,7 @@ fn explore_member(
         marks: 0,
         top: 0,
     };
-    let r = member_moves::moves_of(
-        work,
-        kinds,
-        firsts,
-        seconds,
-        counts,
-        threads,
-        movables,
-        b,
-        e,
-        begun,
-    );
+    let r = member_moves::moves_of(work, table, b, e, begun);
     let Walked::On(t) = r else {
         return Walked::Over;
     };
@@ -94,21 +78,9 @@ fn explore_member(
 }
 
 // Explores until every member is explored.
-pub fn explore(
-    work: &mut [u32],
-    kinds: &[u8; 64],
-    firsts: &[u16; 64],
-    seconds: &[u16; 64],
-    counts: &[u8; 64],
-    threads: &[u8; 512],
-    movables: &[u8; 64],
-    plan: Plan,
-    s: Running,
-) -> Noted
-    requires { ⌜ NodesLent rankOf (now kinds) (now firsts) (now seconds) (now counts) (now threads) (now movables) (basisOf plan 0 0)
-        × Exploring (now work) plan s ⌝ }
-    ensures { λ r. ⌜ SetExplored (nodesHeld (now (kinds .entry)) (now (firsts .entry)) (now (seconds .entry)) (plan .nodes)) plan
-        (now (work .entry)) s (now (work .exit)) r ⌝ }
+pub fn explore(work: &mut [u32], table: &[u8; TABLE_END], plan: Plan, s: Running) -> Noted
+    requires { ⌜ NodesLent rankOf (now table) (basisOf plan 0 0) × Exploring (now work) plan s ⌝ }
+    ensures { λ r. ⌜ SetExplored (nodesIn (nodesOf (now (table .entry))) (plan .nodes)) plan (now (work .entry)) s (now (work .exit)) r ⌝ }
 {
     let mut run = s;
     let mut shelf = Shelf { sets: 0, used: 0 };
@@ -127,19 +99,7 @@ pub fn explore(
             moves: run.moves,
             low: j,
         };
-        let r = explore_member(
-            work,
-            kinds,
-            firsts,
-            seconds,
-            counts,
-            threads,
-            movables,
-            plan,
-            id,
-            from,
-            fit,
-        );
+        let r = explore_member(work, table, plan, id, from, fit);
         let Walked::On(next) = r else {
             return Noted::Over;
         };

@@ -19,6 +19,7 @@ use Rattle.exploration.specs.declared.Plan.{Plan}
 use Rattle.found_set.specs.declared.Found.{Found}
 use Rattle.found_set.specs.declared.Found.the-variants as found
 use Rattle.work_layout.specs.WorkLayout.{workEnd}
+use Rattle.sheets.specs.SheetLimits.{maxStarts}
 
 -- the limits that the caps are
 abbrev pub limitsOf : Caps → Limits
@@ -30,7 +31,7 @@ planOf sheet caps = record { facts = sheet .facts; nodes = sheet .«node_count»
 
 -- the first k seeds are configurations of the sheet
 pub record SeedsFit (sheet : Sheet) (seeds : List Configuration) (k : ℕ) : Type 0 where
-  pub few : k ≤ 16
+  pub few : k ≤ maxStarts
   pub of-sheet : (i : ℕ) → i < k → OfSheet (sheetOf sheet) (configuration (getD seeds i noConfiguration))
   pub threads : (i : ℕ) → i < k → getD seeds i noConfiguration .count ≤ 8
 

@@ -10,6 +10,7 @@ use Rattle.closure_table.specs.ClosureTable.{Closures}
 use Rattle.set_closure.specs.RuleTable.{rulesIn}
 use Rattle.sheet_types.specs.declared.Configuration.{Configuration}
 use Rattle.sheet_types.specs.declared.Sheet.{Sheet}
+use Rattle.sheet_types.specs.NodeTable.{nodesOf}
 use Rattle.sheet_types.specs.HeldSheet.{startsIn, sheetOf, nodesIn}
 use Rattle.collected_moves.specs.declared.Caps.{Caps}
 use Rattle.collected_moves.specs.declared.Running.{Running}
@@ -42,7 +43,7 @@ module _ (sheet : Sheet) (seeds : List Configuration) (k : ℕ) (caps : Caps) (f
       (closed : Closures (rulesIn (sheet .rules) (sheet .«rule_count»)) 0 (2 ^ sheet .facts) a)
       (seeded : SeededOn b caps (startsIn seeds k) w s) where
     -- exploring passes a limit
-    pub exploring-passes : (z : List ℕ) → ExploredOver (nodesIn (sheet .nodes) (sheet .«node_count»)) (planOf sheet caps) w s z
+    pub exploring-passes : (z : List ℕ) → ExploredOver (nodesIn (nodesOf (sheet .table)) (sheet .«node_count»)) (planOf sheet caps) w s z
         → SetPasses (sheetOf sheet) (limitsOf caps) (startsIn seeds k) v z
     exploring-passes z x =
         record {
@@ -58,7 +59,7 @@ module _ (sheet : Sheet) (seeds : List Configuration) (k : ℕ) (caps : Caps) (f
 
     -- every member is explored, and the set is put into order
     pub whole-found : (y : List ℕ) (t : Running) (z : List ℕ)
-        → ExploredOn (nodesIn (sheet .nodes) (sheet .«node_count»)) (planOf sheet caps) w s y t → ArrangedAll y (t .members) z
+        → ExploredOn (nodesIn (nodesOf (sheet .table)) (sheet .«node_count»)) (planOf sheet caps) w s y t → ArrangedAll y (t .members) z
         → SetWhole (sheetOf sheet) (limitsOf caps) (startsIn seeds k) v z (t .members) (t .moves)
     whole-found y t z x r =
         let g = growthOf sheet seeds k caps fine fit in

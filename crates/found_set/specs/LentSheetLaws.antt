@@ -20,8 +20,8 @@ use Rattle.set_closure.specs.RuleTable.{rulesIn, ruleIn}
 use Rattle.sheet_types.specs.declared.Configuration.{Configuration}
 use Rattle.sheet_types.specs.declared.Sheet.{Sheet}
 use Rattle.sheet_types.specs.HeldSheet.{configuration, noConfiguration, startsIn, sheetOf, nodeIn, nodesIn}
-use Rattle.node_opening.specs.OpenedNodes.{OpenedTable}
-use Rattle.movable_nodes.specs.Movability.{MovableHeld}
+use Rattle.sheet_types.specs.NodeTable.{nodesOf}
+use Rattle.movable_nodes.specs.NodeTables.{NodeTable}
 use Rattle.ask_labels.specs.LabelShelfLaws.{sets-few}
 use Rattle.collected_moves.specs.declared.Caps.{Caps}
 use Rattle.collected_moves.specs.declared.Running.{Running}
@@ -35,56 +35,55 @@ use Rattle.exploration.specs.Exploration.{basisOf, Exploring, ExploredFor}
 use Rattle.exploration.specs.ExplorationSteps.{OnPlan}
 use Rattle.seed_members.specs.Seeds.{Cleared, SeededOn}
 use Rattle.found_set.specs.FoundSet.{limitsOf, planOf, SeedsFit}
-use Rattle.work_layout.specs.WorkLayout.{workEnd, spansAt}
+use Rattle.work_layout.specs.WorkLayout.{workEnd, spansAt, setRoom, memberRoom}
+use Rattle.sheets.specs.SheetLimits.{maxFacts, maxRules, maxNodes}
 
 -- ---- counts of a sheet that is held
 module _ (sheet : Sheet) (fine : Admissible (sheetOf sheet)) where
-  pub facts-few : sheet .facts ≤ 12
+  pub facts-few : sheet .facts ≤ maxFacts
   facts-few = fine .within .few-facts
 
-  pub rules-few : sheet .«rule_count» ≤ 32
+  pub rules-few : sheet .«rule_count» ≤ maxRules
   rules-few = rw (tabulate-length (ruleIn (sheet .rules)) (sheet .«rule_count»)) at (fine .within .few-rules)
 
-  pub nodes-are : length (nodesIn (sheet .nodes) (sheet .«node_count»)) ≡ sheet .«node_count»
-  nodes-are = tabulate-length (nodeIn (sheet .nodes)) (sheet .«node_count»)
+  pub nodes-are : length (nodesIn (nodesOf (sheet .table)) (sheet .«node_count»)) ≡ sheet .«node_count»
+  nodes-are = tabulate-length (nodeIn (nodesOf (sheet .table))) (sheet .«node_count»)
 
-  pub nodes-few : sheet .«node_count» ≤ 64
+  pub nodes-few : sheet .«node_count» ≤ maxNodes
   nodes-few = rw nodes-are at (fine .within .few-nodes)
 
   -- ---- what is lent
-  told-fits : (k c : ℕ) → k < sheet .«node_count» → nodeOf (nodesIn (sheet .nodes) (sheet .«node_count»)) k ≡ tell c → c < 2 ^ sheet .facts
+  told-fits : (k c : ℕ) → k < sheet .«node_count» → nodeOf (nodesIn (nodesOf (sheet .table)) (sheet .«node_count»)) k ≡ tell c → c < 2 ^ sheet .facts
   told-fits k c h e =
-      let l : k < length (nodesIn (sheet .nodes) (sheet .«node_count»)) = omega (arith, h, nodes-are) in
+      let l : k < length (nodesIn (nodesOf (sheet .table)) (sheet .«node_count»)) = omega (arith, h, nodes-are) in
       let f : Constraint (sheet .facts) (rulesIn (sheet .rules) (sheet .«rule_count»)) c =
       subst
-      (NodeFits (sheet .facts) (rulesIn (sheet .rules) (sheet .«rule_count»)) (length (nodesIn (sheet .nodes) (sheet .«node_count»))) k) e
+      (NodeFits (sheet .facts) (rulesIn (sheet .rules) (sheet .«rule_count»)) (length (nodesIn (nodesOf (sheet .table)) (sheet .«node_count»))) k) e
       (fine .well-formed .nodes-fit k l) in
       f .facts
 
-  asked-fits : (k c q : ℕ) → k < sheet .«node_count» → nodeOf (nodesIn (sheet .nodes) (sheet .«node_count»)) k ≡ ask c q
+  asked-fits : (k c q : ℕ) → k < sheet .«node_count» → nodeOf (nodesIn (nodesOf (sheet .table)) (sheet .«node_count»)) k ≡ ask c q
       → (c < 2 ^ sheet .facts) × (q < sheet .«node_count»)
   asked-fits k c q h e =
-      let l : k < length (nodesIn (sheet .nodes) (sheet .«node_count»)) = omega (arith, h, nodes-are) in
+      let l : k < length (nodesIn (nodesOf (sheet .table)) (sheet .«node_count»)) = omega (arith, h, nodes-are) in
       let f : Constraint (sheet .facts) (rulesIn (sheet .rules) (sheet .«rule_count»)) c
-      × (q < length (nodesIn (sheet .nodes) (sheet .«node_count»))) =
+      × (q < length (nodesIn (nodesOf (sheet .table)) (sheet .«node_count»))) =
       subst
-      (NodeFits (sheet .facts) (rulesIn (sheet .rules) (sheet .«rule_count»)) (length (nodesIn (sheet .nodes) (sheet .«node_count»))) k) e
+      (NodeFits (sheet .facts) (rulesIn (sheet .rules) (sheet .«rule_count»)) (length (nodesIn (nodesOf (sheet .table)) (sheet .«node_count»))) k) e
       (fine .well-formed .nodes-fit k l) in
       (f .0 .facts, omega (arith, f .1, nodes-are))
 
-  pub sheet-lent : (caps : Caps) (movables : List ℕ) → OpenedTable (nodesIn (sheet .nodes) (sheet .«node_count»)) (sheet .opened)
-      → MovableHeld (nodesIn (sheet .nodes) (sheet .«node_count»)) (sheet .«node_count») movables
-      → NodesLent rankOf (sheet .nodes .kinds) (sheet .nodes .firsts) (sheet .nodes .seconds) (sheet .opened .counts) (sheet .opened .threads) movables
-      (basisOf (planOf sheet caps) 0 0)
-  sheet-lent caps movables o m =
+  pub sheet-lent : (caps : Caps) → NodeTable (nodesIn (nodesOf (sheet .table)) (sheet .«node_count»)) (sheet .table)
+      → NodesLent rankOf (sheet .table) (basisOf (planOf sheet caps) 0 0)
+  sheet-lent caps t =
       record {
         few = nodes-few;
         ranked = well-formed-ranked (sheetOf sheet) (fine .well-formed);
         told = told-fits;
         asked = asked-fits;
-        opens = λ k h. o .holds .at k (omega (arith, h, nodes-are));
-        few-threads = λ k h. o .few .at k (omega (arith, h, nodes-are));
-        movable = m;
+        opens = λ k h. t .opened .holds .at k (omega (arith, h, nodes-are));
+        few-threads = λ k h. t .opened .few .at k (omega (arith, h, nodes-are));
+        movable = record { at = λ k h. t .marks .at k (omega (arith, h, nodes-are)) };
       }
 
 module _ (sheet : Sheet) (seeds : List Configuration) (k : ℕ) (caps : Caps) (fine : Admissible (sheetOf sheet)) (fit : SeedsFit sheet seeds k) where
@@ -110,23 +109,23 @@ module _ (sheet : Sheet) (seeds : List Configuration) (k : ℕ) (caps : Caps) (f
           few = h;
           ascending = o .process .ascending;
           nodes = λ t i.
-              omega (arith, nodes-are sheet fine, opened-inside (nodesIn (sheet .nodes) (sheet .«node_count»)) t (o .process .self-opening t i));
+              omega (arith, nodes-are sheet fine, opened-inside (nodesIn (nodesOf (sheet .table)) (sheet .«node_count»)) t (o .process .self-opening t i));
         };
       }
 
   -- ---- where exploring begins
   -- filling the table changes nothing behind it
-  pub filled-outside : (v a : List ℕ) → workEnd ≤ length v → drop (2 ^ sheet .facts) a ≡ drop (2 ^ sheet .facts) v → SameOutside 0 4096 v a
+  pub filled-outside : (v a : List ℕ) → workEnd ≤ length v → drop (2 ^ sheet .facts) a ≡ drop (2 ^ sheet .facts) v → SameOutside 0 setRoom v a
   filled-outside v a h e =
-      let size : 2 ^ sheet .facts ≤ 4096 = sets-few (sheet .facts) (fine .within .few-facts) in
+      let size : 2 ^ sheet .facts ≤ setRoom = sets-few (sheet .facts) (fine .within .few-facts) in
       let long : length a ≡ length v =
       omega (arith, length-drop (2 ^ sheet .facts) a, length-drop (2 ^ sheet .facts) v, ap length e) in
-      outside-wider (outside-of-ends 0 (2 ^ sheet .facts) v a long refl e) 0 4096 (omega arith) size
+      outside-wider (outside-of-ends 0 (2 ^ sheet .facts) v a long refl e) 0 setRoom (omega arith) size
 
   module _ (v a b w : List ℕ) (s : Running) (long : workEnd ≤ length v)
       (closed : Closures (rulesIn (sheet .rules) (sheet .«rule_count»)) 0 (2 ^ sheet .facts) a)
       (behind : drop (2 ^ sheet .facts) a ≡ drop (2 ^ sheet .facts) v) (cleared : Cleared a b) (seeded : SeededOn b caps (startsIn seeds k) w s) where
-    size : 2 ^ sheet .facts ≤ 4096
+    size : 2 ^ sheet .facts ≤ setRoom
     size = sets-few (sheet .facts) (fine .within .few-facts)
 
     table-closed : Closures (rulesIn (sheet .rules) (sheet .«rule_count»)) 0 (2 ^ sheet .facts) w
@@ -134,10 +133,10 @@ module _ (sheet : Sheet) (seeds : List Configuration) (k : ℕ) (caps : Caps) (f
         closures-agree closed
         (λ i l. seeded .inside .at i (inl (omega (arith, size))) ∙ cleared .outside .at i (inl (omega (arith, size))))
 
-    no-span : (id : ℕ) → id < 512 → getD w (spansAt + id) 0 ≡ 0
+    no-span : (id : ℕ) → id < memberRoom → getD w (spansAt + id) 0 ≡ 0
     no-span id h = seeded .inside .at (spansAt + id) (inl (omega arith)) ∙ cleared .none id h
 
-    few-members : s .members ≤ 512
+    few-members : s .members ≤ memberRoom
     few-members = seeded .collecting .kept .room
 
     pub begins : Exploring w (planOf sheet caps) s
@@ -159,7 +158,7 @@ module _ (sheet : Sheet) (seeds : List Configuration) (k : ℕ) (caps : Caps) (f
           low = λ j h. absurd (omega (arith, h, seeded .lowest));
         }
 
-    pub begins-on : OnPlan growthOf (nodesIn (sheet .nodes) (sheet .«node_count»)) (planOf sheet caps) w
+    pub begins-on : OnPlan growthOf (nodesIn (nodesOf (sheet .table)) (sheet .«node_count»)) (planOf sheet caps) w
     begins-on =
         record {
           sound = growth-sound;

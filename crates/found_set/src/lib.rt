@@ -9,7 +9,8 @@ ghost use Prim.Native.Nat.{_≤_};
 ghost use lib.ListN.{length};
 ghost use Rattle.sheets.specs.WellFormed.{Admissible};
 ghost use Rattle.sheet_types.specs.HeldSheet.{startsIn, sheetOf, nodesIn};
-ghost use Rattle.node_opening.specs.OpenedNodes.{OpenedTable};
+ghost use Rattle.sheet_types.specs.NodeTable.{nodesOf};
+ghost use Rattle.movable_nodes.specs.NodeTables.{NodeTable};
 ghost use Rattle.exploration.specs.Exploration.{Exploring};
 ghost use Rattle.exploration.specs.ExplorationSteps.{SetExplored};
 ghost use Rattle.seed_members.specs.Seeds.{CapsFit};
@@ -24,35 +25,18 @@ pub enum Found {
 
 // Explores from the members there are, with what is lent of the sheet.
 fn explore_sheet(work: &mut [u32], sheet: Sheet, caps: Caps, s: Running) -> Noted
-    requires { ⌜ Admissible (sheetOf sheet) × OpenedTable (nodesIn (sheet .nodes) (sheet .«node_count»)) (sheet .opened)
+    requires { ⌜ Admissible (sheetOf sheet) × NodeTable (nodesIn (nodesOf (sheet .table)) (sheet .«node_count»)) (sheet .table)
         × Exploring (now work) (planOf sheet caps) s ⌝ }
-    ensures { λ r. ⌜ SetExplored (nodesIn (sheet .nodes) (sheet .«node_count»)) (planOf sheet caps) (now (work .entry)) s (now (work .exit)) r ⌝ }
+    ensures { λ r. ⌜ SetExplored (nodesIn (nodesOf (sheet .table)) (sheet .«node_count»)) (planOf sheet caps) (now (work .entry)) s (now (work .exit)) r ⌝ }
 {
-    let nodes = sheet.nodes;
-    let opened = sheet.opened;
-    let kinds = nodes.kinds;
-    let firsts = nodes.firsts;
-    let seconds = nodes.seconds;
-    let counts = opened.counts;
-    let threads = opened.threads;
+    let table = sheet.table;
     let n = sheet.node_count as usize;
-    let movables = movable_nodes::movable_nodes(&kinds, &firsts, &seconds, n);
     let plan = Plan {
         facts: sheet.facts,
         nodes: n,
         caps,
     };
-    exploration::explore(
-        work,
-        &kinds,
-        &firsts,
-        &seconds,
-        &counts,
-        &threads,
-        &movables,
-        plan,
-        s,
-    )
+    exploration::explore(work, &table, plan, s)
 }
 
 // The set that grows from the first k seeds.
@@ -64,7 +48,7 @@ pub fn find_set(
     caps: Caps,
 ) -> Found
     requires { ⌜ (workEnd ≤ length (now work)) × CapsFit caps × Admissible (sheetOf sheet)
-        × OpenedTable (nodesIn (sheet .nodes) (sheet .«node_count»)) (sheet .opened) × SeedsFit sheet seeds k ⌝ }
+        × NodeTable (nodesIn (nodesOf (sheet .table)) (sheet .«node_count»)) (sheet .table) × SeedsFit sheet seeds k ⌝ }
     ensures { λ r. ⌜ SetFound (sheetOf sheet) (limitsOf caps) (startsIn seeds k) (now (work .entry)) (now (work .exit)) r ⌝ }
 {
     let rules = sheet.rules;

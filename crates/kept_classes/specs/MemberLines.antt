@@ -7,7 +7,7 @@ use mathlib.Core.List.{List, map, List·Memᴰ}
 use Prim.Native.Nat.{ℕ, suc, _+_, _*_, _<_}
 use native.Mathlib.Omega.{arith}
 use borrow.Author.Tests.{eqb-true, eq-eqb, not-true}
-use Rattle.list_laws.specs.TestLaws.{true-false, not-passes, Tested, tested, passes, fails}
+use Rattle.list_laws.specs.TestLaws.{true-false, not-passes}
 use Rattle.lists.specs.Lists.{select, Ascends, arrange}
 use Rattle.list_laws.specs.Members.{mem-select, select-mem, mem-map, map-mem}
 use Rattle.list_laws.specs.AscendingLaws.{arrange-ascends, arrange-keeps, arrange-only, ascends-unique}
@@ -22,7 +22,7 @@ use Rattle.comparison.specs.Classes.{classOf, share}
 use Rattle.comparison.specs.Rounds.{redundant, together}
 use Rattle.comparison.specs.SheetTransitions.{transitions}
 use Rattle.comparison_laws.specs.SheetMoves.{lawful}
-use Rattle.comparison_laws.specs.RoundLaws.{ClosedList, Sharing, redundant-yes, redundant-test, together-yes, together-test}
+use Rattle.comparison_laws.specs.RoundLaws.{ClosedList, Sharing, redundant-no, redundant-test, together-yes, together-test}
 use Rattle.kept_classes.specs.RoundLines.{LinesIn, round-lines}
 
 -- a label and a class in one number
@@ -82,19 +82,13 @@ module _ (sheet : Sheet) (set : List Configuration) (numbers : List ℕ) where
         eqb-true (classOf set numbers (m .target)) (classOf set numbers (y .0))
         (sh .from-round (m .target) (y .0) (closed .targets p m mp (x .1)) (closed .targets q k mq (y .1)) (y .2)) in
         subst (λ (v : ℕ). List·Memᴰ v (linesOf q)) (ap (packedLine (m .label)) (sym s) ∙ sym (x .3))
-        (line-in q k (y .1) (irredundant k (y .1) (y .3) (tested (redundant sheet set numbers q k))))
-      where
-        irredundant : (k : Move) → List·Memᴰ k (moves sheet q)
-            → (Redundant (transitions sheet) (Round (transitions sheet) n) q (k .label) (k .target) → ⊥)
-            → Tested (redundant sheet set numbers q k) → redundant sheet set numbers q k ≡ false
-        irredundant k i f (passes y) = absurd (f (redundant-yes sheet wf set closed numbers n sh q k mq i y))
-        irredundant k i f (fails y) = y
+        (line-in q k (y .1) (redundant-no sheet wf set closed numbers n sh q k mq (y .1) (y .3)))
 
     lines-back : (p q : Configuration) → List·Memᴰ p set → List·Memᴰ q set → linesOf p ≡ linesOf q
         → LinesIn (transitions sheet) (Round (transitions sheet) n) p q
     lines-back p q mp mq e b t i f =
         let m : Move = record { label = b; target = t } in
-        let r : redundant sheet set numbers p m ≡ false = irredundant m i f (tested (redundant sheet set numbers p m)) in
+        let r : redundant sheet set numbers p m ≡ false = redundant-no sheet wf set closed numbers n sh p m mp i f in
         let x = line-only q (lineOf m) (subst (λ (l : List ℕ). List·Memᴰ (lineOf m) l) e (line-in p m i r)) in
         let k : Move = x .0 in
         let lb : b ≡ k .label = packed-label b (k .label) (classOf set numbers t) (classOf set numbers (k .target)) (few t) (few
@@ -109,12 +103,6 @@ module _ (sheet : Sheet) (set : List Configuration) (numbers : List ℕ) where
               (redundant-test sheet wf set closed numbers n sh q k mq (x .1)
               (subst (λ (v : ℕ). Redundant (transitions sheet) (Round (transitions sheet) n) q v (k .target)) lb y)) (x .2),
         )
-      where
-        irredundant : (k : Move) → List·Memᴰ k (moves sheet p)
-            → (Redundant (transitions sheet) (Round (transitions sheet) n) p (k .label) (k .target) → ⊥)
-            → Tested (redundant sheet set numbers p k) → redundant sheet set numbers p k ≡ false
-        irredundant k i f (passes y) = absurd (f (redundant-yes sheet wf set closed numbers n sh p k mp i y))
-        irredundant k i f (fails y) = y
 
     -- two members of one class stay together exactly when their lines are equal
     pub lines-round : (p q : Configuration) → List·Memᴰ p set → List·Memᴰ q set → share set numbers p q ≡ true

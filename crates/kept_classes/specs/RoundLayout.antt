@@ -38,14 +38,14 @@ use Rattle.comparison_laws.specs.TrailLaws.{share-sym}
 use Rattle.kept_classes.specs.RoundLines.{round-earlier}
 use Rattle.kept_classes.specs.AddedStores.{added-store, added-is}
 use Rattle.kept_classes.specs.DominatingMoves.{dominates}
-use Rattle.work_layout.specs.WorkLayout.{tableIds, spansAt, movesAt, membersAt, lineTotalsAt}
+use Rattle.work_layout.specs.WorkLayout.{tableIds, spansAt, movesAt, membersAt, lineTotalsAt, moveRoom}
 use Rattle.work_layout.specs.ClassLayout.{classIn, classesIn}
 
 -- ---- a set is left as it is
 -- w is as long as v, and has v's numbers at the places of a set: those of moves, with their spans, and those of members
 pub record SameSet (v w : List ℕ) : Type 0 where
   pub long : length w ≡ length v
-  pub at-moves : (i : ℕ) → spansAt ≤ i → i < movesAt + 4096 → getD w i 0 ≡ getD v i 0
+  pub at-moves : (i : ℕ) → spansAt ≤ i → i < movesAt + moveRoom → getD w i 0 ≡ getD v i 0
   pub at-members : (i : ℕ) → membersAt ≤ i → i < membersAt + tableIds → getD w i 0 ≡ getD v i 0
 
 pub same-set-refl : (v : List ℕ) → SameSet v v
@@ -82,7 +82,7 @@ same-set-store v i x o = record {
   at-members = λ j h k. getD-set-other v i j x 0 (λ e. members-apart o j h k e);
 }
   where
-    moves-apart : (i < spansAt) ⊎ (lineTotalsAt ≤ i) → (j : ℕ) → spansAt ≤ j → j < movesAt + 4096 → j ≡ i → ⊥
+    moves-apart : (i < spansAt) ⊎ (lineTotalsAt ≤ i) → (j : ℕ) → spansAt ≤ j → j < movesAt + moveRoom → j ≡ i → ⊥
     moves-apart (inl l) j h k e = omega arith
     moves-apart (inr l) j h k e = omega arith
 

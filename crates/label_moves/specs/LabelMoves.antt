@@ -6,6 +6,7 @@ use lib.Bits.{bitOr}
 use Rattle.moves.specs.Orders.{Move}
 use Rattle.label_search.specs.AskLabels.{part}
 use Rattle.work_layout.specs.WorkLayout.{listsAt, listsEnd}
+use Rattle.sheets.specs.SheetLimits.{maxFacts}
 
 -- the move with label a from store d to these threads
 abbrev pub labelMove : List ℕ → ℕ → List ℕ → ℕ → Move
@@ -17,7 +18,7 @@ labelMoves w d ts from end = map (labelMove w d ts) (part w from end)
 
 -- sets of the facts stand among the labels from `from` on, before `end`, and d is one too
 pub record LabelsStand (w : List ℕ) (facts d from end : ℕ) : Type 0 where
-  pub few : facts ≤ 12
+  pub few : facts ≤ maxFacts
   pub store : d < 2 ^ facts
   pub low : listsAt ≤ from
   pub order : from ≤ end

@@ -11,6 +11,7 @@ use Rattle.sheets.specs.Sheet.{Sheet}
 use Rattle.moves.specs.Moves.{labels}
 use Rattle.closure_table.specs.ClosureTable.{Closures}
 use Rattle.label_tests.specs.LabelTests.{passesBy}
+use Rattle.sheets.specs.SheetLimits.{maxFacts}
 
 -- the slice begins with the closures of every set of so many facts, under some rules about them
 pub record TableOf (facts : ℕ) (w : List ℕ) : Type 0 where
@@ -25,7 +26,7 @@ pub record LabelsAre (w : List ℕ) (facts d c : ℕ) (found : List ℕ) : Type 
 
 -- a table of closures, a store d of its facts, and behind the table, from `at` on, room for labels and one number more
 pub record LabelRoom (facts d at : ℕ) (w : List ℕ) : Type 0 where
-  pub few : facts ≤ 12
+  pub few : facts ≤ maxFacts
   pub table : TableOf facts w
   pub store : d < 2 ^ facts
   pub behind : 2 ^ facts ≤ at

@@ -25,7 +25,7 @@ fn number_of(w: &[usize], p: usize, k: usize) -> usize {
 }
 
 // The class of configuration p.
-pub fn class_of(w: &[usize], p: usize) -> usize
+pub(crate) fn class_of(w: &[usize], p: usize) -> usize
     ensures { λ r. ⌜ r ≡ inEntry (now (w .entry)) 1281 p 1 ⌝ }
 {
     numbers::in_entry(w, areas::NUMBERS, p, CLASS)
@@ -178,7 +178,7 @@ fn take_lines(w: &mut [usize], n: usize) -> usize {
 }
 
 // Level 0: equal stores.
-pub fn first_level(w: &mut [usize], n: usize) -> bool {
+pub(crate) fn first_level(w: &mut [usize], n: usize) -> bool {
     if !begin_lines(w, n) {
         return false;
     }
@@ -187,7 +187,7 @@ pub fn first_level(w: &mut [usize], n: usize) -> bool {
 }
 
 // The next level: for how many configurations the class is another; none where there is no room.
-pub fn next_level(w: &mut [usize], n: usize) -> usize {
+pub(crate) fn next_level(w: &mut [usize], n: usize) -> usize {
     if !number_sets(w, n) {
         return numbers::NONE;
     }

@@ -30,7 +30,7 @@ fn word_at(s: &[u8], at: usize) -> usize
     requires { ⌜ at ≤ 65536 ⌝ }
     ensures { λ r. ⌜ r < 65536 ⌝ }
 {
-    threads::wide(byte_at(s, at)) + 256 * threads::wide(byte_at(s, at + 1))
+    small_numbers::wide(byte_at(s, at)) + 256 * small_numbers::wide(byte_at(s, at + 1))
 }
 
 // The number of the configuration whose store and threads stand at a place of the answer; none where it is not reached.
@@ -53,14 +53,14 @@ fn list_member(answer: &[u8], at: usize, w: &mut [usize], i: usize) -> usize
     if p == numbers::NONE {
         return numbers::NONE;
     }
-    let class = at + 3 + threads::wide(count);
+    let class = at + 3 + small_numbers::wide(count);
     numbers::put_in_entry(w, areas::MEMBERS, i, MEMBER, p);
     numbers::put_in_entry(w, areas::MEMBERS, i, REPORTED, word_at(answer, class));
     class + 2
 }
 
 // Takes in every member of the answer, and gives their number; none where one is not reached.
-pub fn list_members(answer: &[u8], w: &mut [usize]) -> usize
+pub(crate) fn list_members(answer: &[u8], w: &mut [usize]) -> usize
     ensures { λ r. ⌜ Listed r ⌝ }
 {
     let m = word_at(answer, 0);
@@ -94,7 +94,7 @@ fn show_member(w: &mut [usize], i: usize) -> usize
 }
 
 // Numbers the classes of the m members by first member, and tells whether the numbers are those of before.
-pub fn show_members(w: &mut [usize], m: usize) -> bool {
+pub(crate) fn show_members(w: &mut [usize], m: usize) -> bool {
     pairs::make_empty(w, areas::LINES, MOST_MEMBERS);
     let mut changed: usize = 0;
     let mut i: usize = 0;
@@ -106,7 +106,7 @@ pub fn show_members(w: &mut [usize], m: usize) -> bool {
 }
 
 // Whether every member is shown by the class that was reported.
-pub fn classes_agree(w: &[usize], m: usize) -> bool {
+pub(crate) fn classes_agree(w: &[usize], m: usize) -> bool {
     let mut i: usize = 0;
     while i < m {
         let shown = numbers::in_entry(w, areas::MEMBERS, i, SHOWN);
@@ -119,7 +119,7 @@ pub fn classes_agree(w: &[usize], m: usize) -> bool {
 }
 
 // Whether configuration p is the member at a place.
-pub fn stands_at(w: &[usize], m: usize, place: usize, p: usize) -> bool
+pub(crate) fn stands_at(w: &[usize], m: usize, place: usize, p: usize) -> bool
     ensures { λ r. ⌜ Tells (place < m) r ⌝ }
 {
     if m <= place {

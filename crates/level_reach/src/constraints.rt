@@ -5,19 +5,19 @@ ghost use mathlib.Core.Path.{_≡_};
 ghost use Rattle.level_reach.specs.Constraints.{includesAll, constraintOf, joinedIn};
 
 // More constraints than these are not looked at.
-pub const MOST_CONSTRAINTS: usize = 256;
+pub(crate) const MOST_CONSTRAINTS: usize = 256;
 
 const SETS: usize = 4096;
 
 // Whether a set has all facts of another.
-pub fn includes(set: usize, part: usize) -> bool
+pub(crate) fn includes(set: usize, part: usize) -> bool
     ensures { λ r. ⌜ r ≡ includesAll set part ⌝ }
 {
     set & part == part
 }
 
 // Constraint e.
-pub fn constraint(w: &[usize], e: usize) -> usize
+pub(crate) fn constraint(w: &[usize], e: usize) -> usize
     ensures { λ r. ⌜ r ≡ constraintOf (now (w .entry)) e ⌝ }
 {
     if e < MOST_CONSTRAINTS {
@@ -28,7 +28,7 @@ pub fn constraint(w: &[usize], e: usize) -> usize
 }
 
 // Two constraints joined: the closure of their union.
-pub fn joined(w: &[usize], a: usize, b: usize) -> usize
+pub(crate) fn joined(w: &[usize], a: usize, b: usize) -> usize
     ensures { λ r. ⌜ r ≡ joinedIn (now (w .entry)) a b ⌝ }
 {
     let union = a | b;

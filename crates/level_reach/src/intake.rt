@@ -4,9 +4,10 @@ use level_tables::areas;
 use level_tables::numbers;
 use level_tables::threads;
 use level_tables::threads::Threads;
-use sheet_types::Nodes;
-use sheet_types::Opened;
+use sheet_types::COUNTS;
 use sheet_types::Sheet;
+use sheet_types::TABLE_END;
+use sheet_types::THREADS;
 ghost use mathlib.Core.Path.{_≡_};
 ghost use Prim.Native.Nat.{_<_};
 
@@ -14,16 +15,10 @@ const NODES: usize = 64;
 
 const PASSES: usize = 13;
 
-pub fn wide(x: u16) -> usize
-    ensures { λ r. ⌜ r ≡ x ⌝ }
-{
-    x as usize
-}
-
 // A field of a rule, where each rule has two.
 fn field_at(rules: &[u16], i: usize) -> usize {
     if i < rules.len() {
-        wide(rules[i])
+        small_numbers::wide_word(rules[i])
     } else {
         numbers::NONE
     }
@@ -97,42 +92,40 @@ fn put_constraints(w: &mut [usize], sets: usize) -> bool {
 }
 
 // Stores a node's four numbers.
-fn put_node(w: &mut [usize], k: usize, kind: u8, first: u16, second: u16, list: usize) {
-    numbers::put_in_entry(w, areas::NODES, k, 0, threads::wide(kind));
-    numbers::put_in_entry(w, areas::NODES, k, 1, wide(first));
-    numbers::put_in_entry(w, areas::NODES, k, 2, wide(second));
+fn put_node(w: &mut [usize], k: usize, kind: u8, first: u16, second: usize, list: usize) {
+    numbers::put_in_entry(w, areas::NODES, k, 0, kind as usize);
+    numbers::put_in_entry(w, areas::NODES, k, 1, first as usize);
+    numbers::put_in_entry(w, areas::NODES, k, 2, second);
     numbers::put_in_entry(w, areas::NODES, k, 3, list);
 }
 
 // The threads that node k opens to.
-fn opened_list(opened: Opened, k: usize) -> Threads
+fn opened_list(table: &[u8; TABLE_END], k: usize) -> Threads
     requires { ⌜ k < 64 ⌝ }
 {
-    let counts = opened.counts;
-    let threads = opened.threads;
-    threads::list_of(&threads, 8 * k, counts[k])
+    threads::list_of(table, THREADS + 8 * k, table[COUNTS + k])
 }
 
 // Takes in node k.
-fn take_node(w: &mut [usize], k: usize, nodes: Nodes, opened: Opened) -> bool
+fn take_node(w: &mut [usize], k: usize, table: &[u8; TABLE_END]) -> bool
     requires { ⌜ k < 64 ⌝ }
 {
-    let list = opened_list(opened, k);
+    let list = opened_list(table, k);
     let Threads::Are(x) = list else {
         return false;
     };
-    let kinds = nodes.kinds;
-    let firsts = nodes.firsts;
-    let seconds = nodes.seconds;
-    put_node(w, k, kinds[k], firsts[k], seconds[k], x);
+    let kind = sheet_types::kind_in(table, k);
+    let first = sheet_types::first_in(table, k);
+    let second = sheet_types::second_in(table, k);
+    put_node(w, k, kind, first, second, x);
     true
 }
 
 // Takes in every node.
-fn take_nodes(w: &mut [usize], nodes: Nodes, opened: Opened) -> bool {
+fn take_nodes(w: &mut [usize], table: &[u8; TABLE_END]) -> bool {
     let mut k: usize = 0;
     while k < NODES {
-        if !take_node(w, k, nodes, opened) {
+        if !take_node(w, k, table) {
             return false;
         }
         k += 1;
@@ -141,13 +134,14 @@ fn take_nodes(w: &mut [usize], nodes: Nodes, opened: Opened) -> bool {
 }
 
 // Takes in a sheet that was read; tells whether there was room for its constraints.
-pub fn take_in(sheet: Sheet, w: &mut [usize]) -> bool {
+pub(crate) fn take_in(sheet: Sheet, w: &mut [usize]) -> bool {
     let rules = sheet.rules;
+    let table = sheet.table;
     let facts = sheet.facts;
     if 12 < facts {
         return false;
     }
     let sets = 1usize << facts as usize;
     put_closures(w, &rules, sheet.rule_count, sets);
-    take_nodes(w, sheet.nodes, sheet.opened) && put_constraints(w, sets)
+    take_nodes(w, &table) && put_constraints(w, sets)
 }

@@ -98,7 +98,7 @@ fn enter_start(w: &mut [usize], start: Configuration) -> usize {
     let Threads::Are(x) = list else {
         return numbers::NONE;
     };
-    pairs::enter(w, areas::CONFIGURATIONS, intake::wide(start.store), x)
+    pairs::enter(w, areas::CONFIGURATIONS, start.store as usize, x)
 }
 
 // Takes in a sheet, and enters everything that is reached; false where there is no room.

@@ -159,7 +159,7 @@ fn reduce_thread(w: &mut [usize], p: usize, i: usize) -> bool
 }
 
 // The reductions of configuration p; false where there is no room.
-pub fn reduce(w: &mut [usize], p: usize) -> bool {
+pub(crate) fn reduce(w: &mut [usize], p: usize) -> bool {
     let mut i: usize = 0;
     while i < 8 {
         if !reduce_thread(w, p, i) {

@@ -34,11 +34,12 @@ use Rattle.walk_state.specs.declared.Walk.{Walk}
 use Rattle.walk_state.specs.declared.Walked.{Walked}
 use Rattle.walk_state.specs.declared.Walked.the-variants.{On, Over}
 use Rattle.walk_state.specs.WalkState.{NodesOf, MemberFits, VisitFits, marksOf, Walking, InReachBelow, Covering, OnSheet, TurnOver}
+use Rattle.walk_state.specs.NotedInWalk.{grown-sheet}
 use Rattle.walk_state.specs.PushedInWalk.{topped, pushed-walking, stored-members, stored-moves, stored-marks, stored-grown}
 use Rattle.node_walk.specs.NodeVisits.{WalkedOn, WalkedAs}
-use Rattle.node_marks.specs.MarkLaws.{grown-sheet}
 use Rattle.member_moves.specs.MovesFound.{FoundOn, FoundOver, FoundBelow, NextOn, NextOver, NextFound}
 use Rattle.work_layout.specs.WorkLayout.{marksAt, pendingAt, pendingEnd}
+use Rattle.sheets.specs.SheetLimits.{maxNodes}
 
 -- ---- threads of the member
 module _ {b : Basis} {e : Configuration} (fit : MemberFits b e) (i : ℕ) (l : i < length (e .threads)) where
@@ -105,7 +106,7 @@ same-next {rank} nodes {b} {v} {s} e i k z p l q =
 
 -- ---- a thread stored and walked
 module _ {rank : ℕ → ℕ} (nodes : List Node) {b : Basis} {v : List ℕ} {s : Walk} (of : NodesOf rank b nodes) (e : Configuration) (i : ℕ) (k : Walking rank v b s) (z : s .top ≡ 0)
-    (nodes-few : b .nodes ≤ 64) (fit : MemberFits b e) (same : b .store ≡ e .store) (l : i < length (e .threads)) {u : List ℕ}
+    (nodes-few : b .nodes ≤ maxNodes) (fit : MemberFits b e) (same : b .store ≡ e .store) (l : i < length (e .threads)) {u : List ℕ}
     (p : Pushed v 0 (threadAt e i) u) where
   abbrev x : NodeBeside
   x = threadAt e i

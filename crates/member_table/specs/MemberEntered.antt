@@ -24,7 +24,7 @@ use Rattle.member_table.specs.MemberSearch.{Placed}
 use Rattle.list_laws.specs.RaisedNumbers.{Raised, raised-behind}
 use Rattle.member_table.specs.MemberLaws.{ordered-in}
 use Rattle.member_table.specs.EntryFound.{EnteredIn}
-use Rattle.work_layout.specs.WorkLayout.{tableIds, tableLength}
+use Rattle.work_layout.specs.WorkLayout.{tableIds, tableLength, memberRoom}
 
 -- the three numbers of member n, put in their places
 abbrev pub putKey : List ℕ → ℕ → Numbers → List ℕ
@@ -71,7 +71,7 @@ module _ (u : List ℕ) (n : ℕ) (x : Numbers) where
   key-long = simp length-set
 
 -- the order moved up, the id and the numbers stored
-pub put-in : (v u : List ℕ) (n at : ℕ) (x : Numbers) → Raised 1 v (tableIds + at) (tableIds + n) u → at ≤ n → n < 512 → tableLength ≤ length v
+pub put-in : (v u : List ℕ) (n at : ℕ) (x : Numbers) → Raised 1 v (tableIds + at) (tableIds + n) u → at ≤ n → n < memberRoom → tableLength ≤ length v
     → PutIn v n at x (putKey (set u (tableIds + at) n) n x)
 put-in v u n at x r h k l =
     let t : List ℕ = set u (tableIds + at) n in
@@ -145,7 +145,7 @@ module _ (v w : List ℕ) (n at : ℕ) (x : Numbers) (k : Kept v n) (i : PutIn v
           omega (arith, r)
 
   -- p was no member
-  pub entered-new : (limit : ℕ) → n < limit → limit ≤ 512 → PackedIn x → Placed v n (standsFor x) false at
+  pub entered-new : (limit : ℕ) → n < limit → limit ≤ memberRoom → PackedIn x → Placed v n (standsFor x) false at
       → EnteredIn v n limit (standsFor x) w n (n + 1) at
   entered-new limit h z q p =
       record {

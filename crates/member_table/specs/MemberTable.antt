@@ -9,7 +9,7 @@ use Rattle.sheets.specs.Sheet.{Configuration}
 use Rattle.moves.specs.Orders.{configurationBefore}
 use Rattle.packing.specs.declared.Numbers.{Numbers}
 use Rattle.packing.specs.Packing.{standsFor, PackedIn}
-use Rattle.work_layout.specs.WorkLayout.{tableIds, tableLength}
+use Rattle.work_layout.specs.WorkLayout.{tableIds, tableLength, memberRoom}
 
 -- the three numbers of member i
 abbrev pub numbersIn : List ℕ → ℕ → Numbers
@@ -37,7 +37,7 @@ orderedIn w n = tabulate (placedIn w) n
 
 -- n members are kept, each once
 pub record Kept (w : List ℕ) (n : ℕ) : Type 0 where
-  pub room : n ≤ 512
+  pub room : n ≤ memberRoom
   pub long : tableLength ≤ length w
   pub packed : (i : ℕ) → i < n → PackedIn (numbersIn w i)
   pub ids : (j : ℕ) → j < n → idIn w j < n

@@ -7,7 +7,7 @@ ghost use Prim.Native.Nat.{_+_, _*_, _≤_, _<_};
 ghost use lib.ListN.{length};
 ghost use Rattle.list_laws.specs.Frames.{SameOutside};
 ghost use Rattle.moves.specs.Orders.{configurationBefore};
-ghost use Rattle.work_layout.specs.WorkLayout.{tableLength};
+ghost use Rattle.work_layout.specs.WorkLayout.{tableLength, memberRoom};
 ghost use Rattle.packing.specs.Packing.{sideOf, standsFor, PackedIn};
 ghost use Rattle.member_table.specs.MemberTable.{numbersIn, memberIn, idIn, placedIn, Kept, partAt};
 ghost use Rattle.member_table.specs.MemberSearch.{Placed};
@@ -86,7 +86,7 @@ fn place(work: &[u32], n: usize, x: Numbers) -> Spot
 
 // Puts member n in at a place of the order.
 fn put_in(work: &mut [u32], n: usize, at: usize, x: Numbers)
-    requires { ⌜ (at ≤ n) × (n < 512) × (tableLength ≤ length (now work)) ⌝ }
+    requires { ⌜ (at ≤ n) × (n < memberRoom) × (tableLength ≤ length (now work)) ⌝ }
     ensures { λ _. ⌜ PutIn (now (work .entry)) n at x (now (work .exit)) ⌝ }
 {
     number_lists::shift_up(work, TABLE_IDS + at, TABLE_IDS + n);
@@ -96,7 +96,7 @@ fn put_in(work: &mut [u32], n: usize, at: usize, x: Numbers)
 
 // Enters a configuration, unless it is a member already or there are limit members.
 fn enter(work: &mut [u32], n: usize, limit: usize, x: Numbers) -> Entry
-    requires { ⌜ Kept (now work) n × PackedIn x × (n ≤ limit) × (limit ≤ 512) ⌝ }
+    requires { ⌜ Kept (now work) n × PackedIn x × (n ≤ limit) × (limit ≤ memberRoom) ⌝ }
     ensures { λ r. ⌜ EntryIn (now (work .entry)) n limit (standsFor x) (now (work .exit)) r ⌝ }
 {
     let spot = place(work, n, x);
@@ -114,7 +114,7 @@ fn enter(work: &mut [u32], n: usize, limit: usize, x: Numbers) -> Entry
 
 // The same in the part of a longer slice that starts at base.
 pub fn enter_at(work: &mut [u32], base: usize, n: usize, limit: usize, x: Numbers) -> Entry
-    requires { ⌜ Kept (partAt (now work) base) n × PackedIn x × (n ≤ limit) × (limit ≤ 512) ⌝ }
+    requires { ⌜ Kept (partAt (now work) base) n × PackedIn x × (n ≤ limit) × (limit ≤ memberRoom) ⌝ }
     ensures { λ r. ⌜ EntryIn (partAt (now (work .entry)) base) n limit (standsFor x) (partAt (now (work .exit)) base) r
         × SameOutside base (base + tableLength) (now (work .entry)) (now (work .exit)) ⌝ }
 {

@@ -1,2 +1,3 @@
 pub mod Movability
 pub mod MovabilityLaws
+pub mod NodeTables

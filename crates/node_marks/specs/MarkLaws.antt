@@ -17,12 +17,10 @@ use Rattle.list_laws.specs.Members.{mem-map, map-mem}
 use Rattle.sheets.specs.Sheet.{Node, Configuration}
 use Rattle.moves.specs.Orders.{Move}
 use Rattle.node_moves.specs.NodeMoves.{NodeBeside, placedMoves}
-use Rattle.closure_table.specs.ClosureTable.{closures-agree}
 use Rattle.member_table.specs.MemberTable.{memberIn, membersIn, partAt, Kept}
 use Rattle.member_table.specs.EntryFound.{EnteredIn}
 use Rattle.member_table.specs.MemberLaws.{kept-none, member-id, entered-itself, entered-only}
-use Rattle.label_search.specs.LabelScanLaws.{table-agree}
-use Rattle.ask_labels.specs.LabelShelfLaws.{sets-few, SameShelf, shelved-agree}
+use Rattle.ask_labels.specs.LabelShelfLaws.{room-agree, SameShelf, shelved-agree}
 use Rattle.collected_moves.specs.CollectedMoves.{Grown, membersOf, movesOf}
 use Rattle.collected_moves.specs.CollectedLaws.{grown-trans}
 use Rattle.collected_moves.specs.CollectedFrames.{members-outside, moves-outside, collecting-outside, grown-outside}
@@ -34,9 +32,10 @@ use Rattle.nodes_to_visit.specs.NodesToVisitLaws.{pending-pop, pending-same, pe
 use Rattle.walk_state.specs.declared.Basis.{Basis}
 use Rattle.walk_state.specs.declared.Walk.{Walk}
 use Rattle.walk_state.specs.WalkState.{VisitFits, Entry, marksOf, Walking, InReach, InReachBelow, Covering, OnSheet, Carried, TurnOn, TurnOver}
+use Rattle.walk_state.specs.NotedInWalk.{grown-sheet}
 use Rattle.node_marks.specs.declared.Marked.{Marked}
 use Rattle.node_marks.specs.NodeMarks.{SeenAs, MarkedAs}
-use Rattle.work_layout.specs.WorkLayout.{workEnd, tableLength, movesAt, marksAt, pendingAt}
+use Rattle.work_layout.specs.WorkLayout.{workEnd, tableLength, movesAt, marksAt, pendingAt, memberRoom, setRoom}
 
 -- ---- marks
 -- a mark is the numbers of one node with threads beside it
@@ -51,7 +50,7 @@ module _ (w : List ℕ) (n : ℕ) {p : Configuration} where
 
 -- entered among the marks there were
 pub entered-marks : {v w : List ℕ} {n : ℕ} {p : Configuration} {id m at : ℕ} → Kept (partAt v marksAt) n
-    → EnteredIn (partAt v marksAt) n 512 p (partAt w marksAt) id m at → SameOutside marksAt (marksAt + tableLength) v w
+    → EnteredIn (partAt v marksAt) n memberRoom p (partAt w marksAt) id m at → SameOutside marksAt (marksAt + tableLength) v w
     → MarkedAs v n (placed p) w (record { fresh = ltb n m; marks = m })
 entered-marks {v} {w} {n} {p} {id} {m} {at} k e o =
     record {
@@ -94,12 +93,12 @@ pub forgotten-kept : {v w : List ℕ} {n : ℕ} → Kept v n → w ≡ v → Kep
 forgotten-kept {w = w} k q = kept-none w (omega (arith, ap (λ (l : List ℕ). length l) q, k .long))
 
 -- there is room where there are none
-pub never-full : _≡_ {A = ℕ} 0 512 → ⊥
+pub never-full : _≡_ {A = ℕ} 0 memberRoom → ⊥
 never-full q = omega arith
 
 -- where there is no room all marks are forgotten, and then this one is made
 pub forgotten-marks : {u v w : List ℕ} {n : ℕ} {p : Configuration} {id m at : ℕ} → (List·Memᴰ p (membersIn (partAt u marksAt) n) → ⊥)
-    → Kept (partAt v marksAt) 0 → EnteredIn (partAt v marksAt) 0 512 p (partAt w marksAt) id m at
+    → Kept (partAt v marksAt) 0 → EnteredIn (partAt v marksAt) 0 memberRoom p (partAt w marksAt) id m at
     → SameOutside marksAt (marksAt + tableLength) u v → SameOutside marksAt (marksAt + tableLength) v w
     → MarkedAs u n (placed p) w (record { fresh = true; marks = m })
 forgotten-marks {u} {v} {w} {n} {p} {id} {m} none k e o q =
@@ -123,20 +122,6 @@ forgotten-marks {u} {v} {w} {n} {p} {id} {m} none k e o q =
 pub unmarked-seen : {v : List ℕ} {n : ℕ} {p : NodeBeside} → Kept (partAt v marksAt) n → SeenAs v n p v (record { fresh = true; marks = n })
 unmarked-seen {v} k =
     record { kept = k; only = λ x i. inr i; known = λ t. true-false true refl t; outside = outside-same marksAt (marksAt + tableLength) v }
-
--- ---- the table of closures
--- a sheet stays that of the slice where nothing is changed before the moves in hand
-pub grown-sheet : {rank : ℕ → ℕ} {b : Basis} {v w : List ℕ} {s : Walk} {g : Growth} {nodes : List Node} → Walking rank v b s
-    → SameOutside (movesAt + b .first) workEnd v w → OnSheet g nodes b v → OnSheet g nodes b w
-grown-sheet {b = b} {v} {w} k o h =
-    record {
-      sound = h .sound;
-      nodes-are = h .nodes-are;
-      node-count = h .node-count;
-      facts-are = h .facts-are;
-      closures =
-          closures-agree (h .closures) (λ i l. o .at i (inl (omega (arith, sets-few (b .facts) (k .shelf-room .few)))));
-    }
 
 -- ---- a node looked for among the marks that was taken out
 -- the walk with so many marks and nodes to visit
@@ -162,7 +147,7 @@ module _ {rank : ℕ → ℕ} {b : Basis} {v : List ℕ} {s : Walk} (k : Walking
       grown-outside (a .outside) (inl (omega arith)) (b .first) (s .running) (inl moves-below)
       (omega (arith, moves-below, k .collecting .room .1)) (omega arith)
 
-  same-table : (i : ℕ) → i < 4096 → getD w i 0 ≡ getD v i 0
+  same-table : (i : ℕ) → i < setRoom → getD w i 0 ≡ getD v i 0
   same-table i l = a .outside .at i (inl (omega arith))
 
   same-shelf : SameShelf v w
@@ -200,12 +185,7 @@ module _ {rank : ℕ → ℕ} {b : Basis} {v : List ℕ} {s : Walk} (k : Walking
         fit = λ x m. k .fit x (subst (List·Memᴰ x) same-members m);
         small = λ x m. k .small x (subst (List·Memᴰ x) same-moves m);
         marks = a .kept;
-        shelf-room = record {
-          few = k .shelf-room .few;
-          table = table-agree w (k .shelf-room .table) (λ i u. same-table i (omega (arith, sets-few (b .facts) (k .shelf-room .few))));
-          store = k .shelf-room .store;
-          long = omega (arith, k .shelf-room .long, a .outside .long);
-        };
+        shelf-room = room-agree (k .shelf-room) (a .outside .long) same-table;
         shelved = shelved-agree v w (b .facts) (b .store) (k .shelf-room .few) same-shelf (s .shelf) (k .shelved);
         top = few;
         entries = λ i l. entry-same i l (k .entries i (omega arith));

@@ -1,32 +1,27 @@
 -- The table of opened nodes: the threads of one node more, and what it then holds.
 use mathlib.Core.Path.{_≡_, refl, sym, ap, ap₂, _∙_}
 use mathlib.Core.Bool.{Bool, true, false, cond}
+use mathlib.Core.Logic.{inl, inr}
 use mathlib.Core.List.{List, [], _∷_, _++_}
 use Prim.Native.Nat.{ℕ, _+_, _*_, _≤_, _<_}
 use native.Mathlib.Omega.{arith}
-use lib.ListN.{length, getD, set, take, drop, length-append, length-take, length-drop}
+use lib.ListN.{length, getD, set, take, drop, length-append, length-take, length-drop, length-set}
 use lib.Dec.{eqb, ltb}
-use lib.Seq.{sets, getD-set-same, getD-set-other}
+use lib.Seq.{sets, getD-set-same, getD-set-other, drop-set-lt, length-sets}
 use borrow.Author.Tests.{lt-ltb, le-ltb, ne-eqb, ltb-true, ltb-false}
-use Rattle.sheets.specs.SheetLimits.{maxThreads}
+use Rattle.sheets.specs.SheetLimits.{maxNodes, maxThreads}
 use Rattle.sheets.specs.Sheet.{Node, tell, ask, both, either, openingOf, opened}
 use Rattle.sheet_laws.specs.Ranks.{Ranked, rankOf, parts-map}
 use Rattle.sheet_laws.specs.OpeningLaws.{LowerNames, ranked-none, ranked-next, opening-same, opening-prefix, opening-next}
 use Rattle.sheet_types.specs.HeldSheet.{nodeHeld, openedIn, OpenedHeld}
-use Rattle.sheet_types.specs.declared.Opened.{Opened}
+use Rattle.sheet_types.specs.NodeTable.{Opened, column, nodesOf, openedOf, movablesOf, countsAt, movablesAt, threadsAt, tableEnd}
+use Rattle.sheet_types.specs.NodeTableLaws.{column-other, column-set, drop-sets, nodes-same, threads-from}
 use Rattle.list_laws.specs.Storing.{sets-append, part-sets, stored-part}
 
--- the table in two arrays
-abbrev pub tableIn : List ℕ → List ℕ → Opened
-tableIn counts threads = record { counts = counts; threads = threads }
-
--- the number of threads that a node opens to, and the table after it
+-- the number of threads that a node opens to, and what the table then holds of them
 pub record OpenedNode : Type 0 where
   pub count : ℕ
   pub opened : Opened
-
-abbrev pub openedNode : ℕ → List ℕ → List ℕ → OpenedNode
-openedNode n counts threads = record { count = n; opened = tableIn counts threads }
 
 -- the table with these threads for node k
 abbrev pub holding : Opened → ℕ → List ℕ → Opened
@@ -50,44 +45,98 @@ pub record Few (o : Opened) (k : ℕ) : Type 0 where
 pub held-length : (o : Opened) (j : ℕ) → 8 * j + getD (o .counts) j 0 ≤ length (o .threads) → length (openedIn o j) ≡ getD (o .counts) j 0
 held-length o j h = simp (length-take, length-drop) (omega arith)
 
+-- ---- threads stored in the table
+-- the table of nodes with these threads for node k
+abbrev pub storing : List ℕ → ℕ → List ℕ → List ℕ
+storing v k ts = set (sets v (threadsAt + 8 * k) ts) (countsAt + k) (length ts)
+
+-- node k, of this kind, is opened: so many threads, which the table has where it has room; the rest of it stays
+pub record OpenedAs (v : List ℕ) (k : ℕ) (n : Node) (count : ℕ) (w : List ℕ) : Type 0 where
+  pub opened : record { count = count; opened = openedOf w } ≡ openNode (openedOf v) k n
+  pub nodes : nodesOf w ≡ nodesOf v
+  pub movables : movablesOf w ≡ movablesOf v
+  pub long : length w ≡ length v
+
+module _ (v : List ℕ) (k : ℕ) (ts : List ℕ) (small : k < maxNodes) where
+  -- a column that ends before the counts
+  column-below : (c : ℕ) → c + maxNodes ≤ countsAt → column c (storing v k ts) ≡ column c v
+  column-below c h =
+      column-other c (sets v (threadsAt + 8 * k) ts) (countsAt + k) (length ts) (inr (omega arith))
+      ∙ part-sets v c maxNodes (threadsAt + 8 * k) ts (omega arith)
+
+  stored-counts : column countsAt (storing v k ts) ≡ set (column countsAt v) k (length ts)
+  stored-counts =
+      column-set countsAt (sets v (threadsAt + 8 * k) ts) k (length ts) small
+      ∙ ap (λ (l : List ℕ). set l k (length ts)) (part-sets v countsAt maxNodes (threadsAt + 8 * k) ts (omega arith))
+
+  stored-threads : drop threadsAt (storing v k ts) ≡ sets (drop threadsAt v) (8 * k) ts
+  stored-threads =
+      drop-set-lt threadsAt (sets v (threadsAt + 8 * k) ts) (countsAt + k) (length ts) (omega arith)
+      ∙ drop-sets threadsAt v (8 * k) ts
+
+  stored-opened : openedOf (storing v k ts) ≡ holding (openedOf v) k ts
+  stored-opened = ap₂ (λ (cs ps : List ℕ). record { counts = cs; threads = ps }) stored-counts stored-threads
+
+  pub stored-as : (n : Node) → openNode (openedOf v) k n ≡ record { count = length ts; opened = holding (openedOf v) k ts }
+      → OpenedAs v k n (length ts) (storing v k ts)
+  stored-as n e =
+      record {
+        opened = ap (λ (o : Opened). record { count = length ts; opened = o }) stored-opened ∙ sym e;
+        nodes = nodes-same v (storing v k ts) column-below;
+        movables =
+            column-other movablesAt (sets v (threadsAt + 8 * k) ts) (countsAt + k) (length ts) (inl (omega arith))
+            ∙ part-sets v movablesAt maxNodes (threadsAt + 8 * k) ts (omega arith);
+        long = length-set (sets v (threadsAt + 8 * k) ts) (countsAt + k) (length ts) ∙ length-sets v (threadsAt + 8 * k) ts;
+      }
+
 -- ---- the threads of a both, from those of its two nodes
-module _ (o : Opened) (k p q : ℕ) (room : length (o .threads) ≡ 512) (small : k < 64) (few : Few o k) (left : p < k) (right : q < k) where
-  both-length : length (openedIn o p ++ openedIn o q) ≡ getD (o .counts) p 0 + getD (o .counts) q 0
+module _ (v : List ℕ) (k p q : ℕ) (room : length v ≡ tableEnd) (small : k < maxNodes) (few : Few (openedOf v) k) (left : p < k) (right : q < k) where
+  both-length : length (openedIn (openedOf v) p ++ openedIn (openedOf v) q) ≡ getD (openedOf v .counts) p 0 + getD (openedOf v .counts) q 0
   both-length =
       let a = few .at p left in
       let b = few .at q right in
-      length-append (openedIn o p) (openedIn o q)
-      ∙ ap₂ (λ (m n : ℕ). m + n) (held-length o p (omega arith)) (held-length o q (omega arith))
+      let long : length (drop threadsAt v) ≡ 512 = length-drop threadsAt v ∙ omega arith in
+      length-append (openedIn (openedOf v) p) (openedIn (openedOf v) q)
+      ∙ ap₂ (λ (m n : ℕ). m + n) (held-length (openedOf v) p (omega (arith, long))) (held-length (openedOf v) q (omega (arith, long)))
 
   -- more than the table has room for
-  pub both-many : maxThreads < getD (o .counts) p 0 + getD (o .counts) q 0
-      → record { count = getD (o .counts) p 0 + getD (o .counts) q 0; opened = o } ≡ openNode o k (both p q)
-  both-many h = rw (both-length, lt-ltb _ _ h)
+  pub both-many : (a : ℕ) → a ≡ getD (openedOf v .counts) p 0 → (b : ℕ) → b ≡ getD (openedOf v .counts) q 0 → maxThreads < a + b
+      → OpenedAs v k (both p q) (a + b) v
+  both-many a ea b eb h =
+      let count : a + b ≡ length (openedIn (openedOf v) p ++ openedIn (openedOf v) q) = ap₂ (λ (m n : ℕ). m + n) ea eb ∙ sym both-length in
+      let many : ltb maxThreads (length (openedIn (openedOf v) p ++ openedIn (openedOf v) q)) ≡ true =
+      lt-ltb maxThreads (length (openedIn (openedOf v) p ++ openedIn (openedOf v) q)) (omega (arith, count)) in
+      record { opened = rw (count, many); nodes = refl; movables = refl; long = refl }
 
   -- copied one after the other
-  pub both-few : getD (o .counts) p 0 + getD (o .counts) q 0 ≤ maxThreads → (some : List ℕ) → some ≡ sets (o .threads) (8 * k) (openedIn o p)
-      → record {
-        count = getD (o .counts) p 0 + getD (o .counts) q 0;
-        opened = record {
-          counts = set (o .counts) k (getD (o .counts) p 0 + getD (o .counts) q 0);
-          threads = sets some (8 * k + getD (o .counts) p 0) (take (getD (o .counts) q 0) (drop (8 * q) some));
-        };
-      }
-      ≡ openNode o k (both p q)
-  both-few h some e =
-      let a = few .at p left in
-      let b = few .at q right in
-      let xs : List ℕ = openedIn o p in
-      let ys : List ℕ = openedIn o q in
-      let second : take (getD (o .counts) q 0) (drop (8 * q) some) ≡ ys =
-      ap (λ (l : List ℕ). take (getD (o .counts) q 0) (drop (8 * q) l)) e
-      ∙ part-sets (o .threads) (8 * q) (getD (o .counts) q 0) (8 * k) xs (omega arith) in
-      let stored : sets some (8 * k + getD (o .counts) p 0) (take (getD (o .counts) q 0) (drop (8 * q) some)) ≡ sets (o .threads) (8 * k) (xs ++ ys) =
-      ap (sets some (8 * k + getD (o .counts) p 0)) second
-      ∙ ap (λ (l : List ℕ). sets l (8 * k + getD (o .counts) p 0) ys) e
-      ∙ ap (λ (n : ℕ). sets (sets (o .threads) (8 * k) xs) (8 * k + n) ys) (sym (held-length o p (omega arith)))
-      ∙ sets-append (o .threads) (8 * k) xs ys in
-      rw (both-length, le-ltb _ _ h, stored)
+  pub both-few : (a : ℕ) → a ≡ getD (openedOf v .counts) p 0 → (b : ℕ) → b ≡ getD (openedOf v .counts) q 0 → a + b ≤ maxThreads
+      → (some : List ℕ) → some ≡ sets v (threadsAt + 8 * k) (take a (drop (threadsAt + 8 * p) v))
+      → (all : List ℕ) → all ≡ sets some (threadsAt + 8 * k + a) (take b (drop (threadsAt + 8 * q) some))
+      → OpenedAs v k (both p q) (a + b) (set all (countsAt + k) (a + b))
+  both-few a ea b eb h some es all ee =
+      let xs : List ℕ = openedIn (openedOf v) p in
+      let ys : List ℕ = openedIn (openedOf v) q in
+      let e1 = few .at p left in
+      let e2 = few .at q right in
+      let long : length (drop threadsAt v) ≡ 512 = length-drop threadsAt v ∙ omega arith in
+      let first : take a (drop (threadsAt + 8 * p) v) ≡ xs =
+      ap₂ (λ (n : ℕ) (l : List ℕ). take n l) ea (sym (threads-from v (8 * p))) in
+      let begun : some ≡ sets v (threadsAt + 8 * k) xs = es ∙ ap (sets v (threadsAt + 8 * k)) first in
+      let second : take b (drop (threadsAt + 8 * q) some) ≡ ys =
+      ap (λ (l : List ℕ). take b (drop (threadsAt + 8 * q) l)) begun
+      ∙ part-sets v (threadsAt + 8 * q) b (threadsAt + 8 * k) xs (omega (arith, eb))
+      ∙ ap₂ (λ (n : ℕ) (l : List ℕ). take n l) eb (sym (threads-from v (8 * q))) in
+      let size : length xs ≡ a = held-length (openedOf v) p (omega (arith, long)) ∙ sym ea in
+      let done : all ≡ sets v (threadsAt + 8 * k) (xs ++ ys) =
+      ee
+      ∙ ap (sets some (threadsAt + 8 * k + a)) second
+      ∙ ap₂ (λ (l : List ℕ) (n : ℕ). sets l (threadsAt + 8 * k + n) ys) begun (sym size)
+      ∙ sets-append v (threadsAt + 8 * k) xs ys in
+      let count : a + b ≡ length (xs ++ ys) = ap₂ (λ (m n : ℕ). m + n) ea eb ∙ sym both-length in
+      let fits : ltb maxThreads (length (xs ++ ys)) ≡ false = le-ltb maxThreads (length (xs ++ ys)) (omega (arith, count)) in
+      let stored : OpenedAs v k (both p q) (length (xs ++ ys)) (storing v k (xs ++ ys)) =
+      stored-as v k (xs ++ ys) small (both p q) (rw fits) in
+      rw (done, count) stored
 
 -- ---- one node, by its kind
 module _ (o : Opened) (k kind first second : ℕ) where

@@ -4,8 +4,8 @@ use mathlib.Core.Bool.{true, false}
 use mathlib.Core.List.{List, [], _∷_, _++_}
 use Prim.Native.Nat.{ℕ, _+_, _*_, _≤_, _<_}
 use native.Mathlib.Omega.{arith}
-use lib.ListN.{length, length-set}
-use lib.Seq.{getD-set-same, getD-set-other, length-sets}
+use lib.ListN.{length, set, length-append, length-take, length-drop}
+use lib.Seq.{getD-set-same, getD-set-other}
 use lib.Dec.{ltb}
 use borrow.Author.Tests.{lt-ltb, le-ltb}
 use Rattle.list_laws.specs.Tabulate.{tabulate-next, tabulate-same, tabulate-length}
@@ -19,11 +19,14 @@ use Rattle.sheet_laws.specs.SectionLaws.{node-fields-lower}
 use Rattle.sheet_types.specs.HeldSheet.{nodeHeld, nodeIn, nodesIn, answerWith}
 use Rattle.sheet_types.specs.SectionLaws.{refused-with}
 use Rattle.sheet_types.specs.declared.Section.the-variants.{Got, Refused}
-use Rattle.sheet_types.specs.declared.Nodes.{Nodes}
-use Rattle.sheet_types.specs.declared.Opened.{Opened}
 use Rattle.sheet_types.specs.declared.NodeRead.{NodeRead}
-use Rattle.node_opening.specs.OpenedNodes.{OpenedTable, OpenedNode, threadsOf, holding, openNode, table-threads, table-next}
-use Rattle.node_reader.specs.NodesFound.{NodeFound, Room, withNode}
+use Rattle.sheet_types.specs.NodeTable.{Nodes, Opened, nodesOf, openedOf, movablesOf, tableEnd}
+use Rattle.node_opening.specs.OpenedNodes.{OpenedTable, OpenedNode, OpenedAs, threadsOf, holding, openNode, table-threads, table-next}
+use Rattle.movable_nodes.specs.Movability.{MovableHeld, markFor}
+use Rattle.movable_nodes.specs.MovabilityLaws.{marks-next}
+use Rattle.movable_nodes.specs.NodeTables.{NodeTable}
+use Rattle.node_reader.specs.NodesFound.{NodeFound, NodePut, Room, withNode}
+use Rattle.node_reader.specs.StoredNode.{room-of}
 
 -- the nodes with one more are those before, and that one
 pub nodes-with : (ns : Nodes) (i kind first second : ℕ) → i < length (ns .kinds) → i < length (ns .firsts) → i < length (ns .seconds)
@@ -37,13 +40,13 @@ nodes-with ns i kind first second a b c =
     rw (getD-set-other (ns .kinds) i j kind 0 (omega arith), getD-set-other (ns .firsts) i j first 0 (omega arith), getD-set-other (ns .seconds) i j second 0 (omega arith))))
     ∙ ap (λ (x : Node). nodesIn ns i ++ (x ∷ [])) last
 
--- one node more is read up to `next`: the nodes and the table have it
-pub record NextNode (facts : ℕ) (rules : List Rule) (n : ℕ) (s : List ℕ) (before : Nodes) (i at : ℕ) (after : Nodes) (o : Opened) (next : ℕ) : Type 0 where
+-- one node more is read up to `next`: the table has it
+pub record NextNode (facts : ℕ) (rules : List Rule) (n : ℕ) (s : List ℕ) (before : List ℕ) (i at : ℕ) (after : List ℕ) (next : ℕ) : Type 0 where
   pub node : Node
-  pub reading : nodeAt facts rules n s (nodesIn before i) at ≡ got node next
-  pub nodes : nodesIn after (i + 1) ≡ nodesIn before i ++ (node ∷ [])
-  pub table : OpenedTable (nodesIn after (i + 1)) o
-  pub room : Room after o
+  pub reading : nodeAt facts rules n s (nodesIn (nodesOf before) i) at ≡ got node next
+  pub nodes : nodesIn (nodesOf after) (i + 1) ≡ nodesIn (nodesOf before) i ++ (node ∷ [])
+  pub table : NodeTable (nodesIn (nodesOf after) (i + 1)) after
+  pub long : length after ≡ tableEnd
   pub within : next ≤ length s
 
 module _ (facts : ℕ) (rules : List Rule) (n : ℕ) (s : List ℕ) (nodes : Nodes) (o : Opened) (i at : ℕ) (table : OpenedTable (nodesIn nodes i) o)
@@ -109,26 +112,55 @@ module _ (facts : ℕ) (rules : List Rule) (n : ℕ) (s : List ℕ) (nodes : Nod
             (table-next (nodesIn nodes i) o (nodeHeld kind (r .first) (r .second)) table lower (omega (arith, long)) (room .counts) (room .threads)
             (omega (arith, count, ap (λ (k : ℕ). length (threadsOf o k (nodeHeld kind (r .first) (r .second)))) long))))
 
-        wide : b .count ≤ maxThreads → Room (withNode nodes i kind (r .first) (r .second)) (b .opened)
-        wide h =
-            rw (stored h)
-            (record {
-              kinds = length-set (nodes .kinds) i kind ∙ room .kinds;
-              firsts = length-set (nodes .firsts) i (r .first) ∙ room .firsts;
-              seconds = length-set (nodes .seconds) i (r .second) ∙ room .seconds;
-              counts = length-set (o .counts) i (length (threadsOf o i (nodeHeld kind (r .first) (r .second)))) ∙ room .counts;
-              threads = length-sets (o .threads) (8 * i) (threadsOf o i (nodeHeld kind (r .first) (r .second))) ∙ room .threads;
-            })
+        few-threads : b .count ≤ maxThreads → opensToMany (nodesIn nodes i) (nodeHeld kind (r .first) (r .second)) ≡ false
+        few-threads h = ap (ltb maxThreads) (sym (count ∙ threads)) ∙ le-ltb maxThreads (b .count) h
 
-        pub next-few : b .count ≤ maxThreads → NextNode facts rules n s nodes i at (withNode nodes i kind (r .first) (r .second)) (b .opened) next
-        next-few h =
-            let few : opensToMany (nodesIn nodes i) (nodeHeld kind (r .first) (r .second)) ≡ false =
-            ap (ltb maxThreads) (sym (count ∙ threads)) ∙ le-ltb maxThreads (b .count) h in
-            record {
-              node = nodeHeld kind (r .first) (r .second);
-              reading = rw (checked, fields-got a, few);
-              nodes = added;
-              table = rw added (tabled h);
-              room = wide h;
-              within = next-fits .1;
-            }
+        read : b .count ≤ maxThreads → nodeAt facts rules n s (nodesIn nodes i) at ≡ got (nodeHeld kind (r .first) (r .second)) next
+        read h = rw (checked, fields-got a, few-threads h)
+
+-- ---- the table after the node is opened and stored
+module _ (facts : ℕ) (rules : List Rule) (n : ℕ) (s : List ℕ) (v : List ℕ) (i at : ℕ) (table : NodeTable (nodesIn (nodesOf v) i) v)
+    (r : NodeRead) (found : NodeFound facts rules n i s at r) {kind next : ℕ} (a : r .answer ≡ Got kind next)
+    (total : ℕ) (u : List ℕ) (opened : OpenedAs v i (nodeHeld kind (r .first) (r .second)) total u) (small : i < maxNodes) (room : length v ≡ tableEnd) where
+  abbrev x : Node
+  x = nodeHeld kind (r .first) (r .second)
+
+  abbrev ns : List Node
+  ns = nodesIn (nodesOf v) i
+
+  size : length ns ≡ i
+  size = tabulate-length (nodeIn (nodesOf v)) i
+
+  pub next-few : total ≤ maxThreads → (w : List ℕ) → NodePut u i kind (r .first) (r .second) w → NextNode facts rules n s v i at w next
+  next-few h w put =
+      let names = next-fits facts rules n s (nodesOf v) (openedOf v) i at (table .opened) r found a in
+      let low : LowerNames (length ns) x = subst (λ (k : ℕ). LowerNames k x) (sym size) (names .0) in
+      let b : OpenedNode = record { count = total; opened = openedOf u } in
+      let held : OpenedTable (ns ++ (x ∷ [])) (openedOf u) =
+      tabled facts rules n s (nodesOf v) (openedOf v) i at (table .opened) r found a b (opened .opened) small (room-of v room) h in
+      let kept : nodesOf w ≡ withNode (nodesOf v) i kind (r .first) (r .second) =
+      put .nodes ∙ ap (λ (m : Nodes). withNode m i kind (r .first) (r .second)) (opened .nodes) in
+      let more : nodesIn (nodesOf w) (i + 1) ≡ ns ++ (x ∷ []) =
+      ap (λ (m : Nodes). nodesIn m (i + 1)) kept
+      ∙ added facts rules n s (nodesOf v) (openedOf v) i at (table .opened) r found a b (opened .opened) small (room-of v room) in
+      let long-marks : length (movablesOf v) ≡ maxNodes = simp (length-take, length-drop) (omega arith) in
+      let marked : movablesOf w ≡ set (movablesOf v) (length ns) (markFor (movablesOf v) x) =
+      put .marks
+      ∙ ap (λ (l : List ℕ). set l i (markFor l x)) (opened .movables)
+      ∙ ap (λ (k : ℕ). set (movablesOf v) k (markFor (movablesOf v) x)) (sym size) in
+      let marks : MovableHeld (ns ++ (x ∷ [])) (length ns + 1) (movablesOf w) =
+      subst (MovableHeld (ns ++ (x ∷ [])) (length ns + 1)) (sym marked)
+      (marks-next ns x (movablesOf v) (table .opened .ranked) low (table .marks) (omega (arith, long-marks, size))) in
+      record {
+        node = x;
+        reading = read facts rules n s (nodesOf v) (openedOf v) i at (table .opened) r found a b (opened .opened) small (room-of v room) h;
+        nodes = more;
+        table =
+            subst (λ (ms : List Node). NodeTable ms w) (sym more)
+            (record {
+              opened = subst (OpenedTable (ns ++ (x ∷ []))) (sym (put .opened)) held;
+              marks = subst (λ (k : ℕ). MovableHeld (ns ++ (x ∷ [])) k (movablesOf w)) (sym (length-append ns (x ∷ []))) marks;
+            });
+        long = put .long ∙ opened .long ∙ room;
+        within = names .1;
+      }

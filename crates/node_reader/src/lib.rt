@@ -1,19 +1,26 @@
 // The nodes of a sheet: their fields, their sets closed, and the threads that each opens to.
+use sheet_types::FIRST_HIGHS;
+use sheet_types::FIRST_LOWS;
+use sheet_types::KINDS;
+use sheet_types::MOVABLES;
 use sheet_types::NodeRead;
-use sheet_types::Nodes;
 use sheet_types::NodesRead;
-use sheet_types::Opened;
+use sheet_types::SECONDS;
 use sheet_types::Section;
 use sheet_types::Sheet;
+use sheet_types::TABLE_END;
 ghost use mathlib.Core.Path.{_≡_};
 ghost use mathlib.Core.List.{[]};
-ghost use Prim.Native.Nat.{_≤_};
+ghost use Prim.Native.Nat.{_≤_, _<_};
 ghost use lib.ListN.{length};
 ghost use Rattle.sheets.specs.SheetLimits.{maxFacts, maxRules, minNodes, maxNodes};
 ghost use Rattle.sheet_reading.specs.Reading.{nodeAt, nodesAt, recordsFrom};
+ghost use Rattle.sheet_laws.specs.OpeningLaws.{LowerNames};
 ghost use Rattle.set_closure.specs.RuleTable.{rulesIn};
+ghost use Rattle.sheet_types.specs.HeldSheet.{nodeHeld};
+ghost use Rattle.sheet_types.specs.NodeTable.{tableEnd};
 ghost use Rattle.node_reader.specs.FirstFields.{closedFirst};
-ghost use Rattle.node_reader.specs.NodesFound.{NodeFound, NodesFound};
+ghost use Rattle.node_reader.specs.NodesFound.{NodeFound, NodePut, NodesFound, noNodes};
 
 const MAX_THREADS: usize = Sheet::MAX_THREADS as usize;
 
@@ -72,22 +79,27 @@ fn node_at(
     }
 }
 
-// This answer with no node beside it.
+// This answer with zeros beside it.
 fn no_nodes(answer: Section) -> NodesRead
-    ensures { λ r. ⌜ r .answer ≡ answer ⌝ }
+    ensures { λ r. ⌜ r ≡ noNodes answer ⌝ }
 {
     NodesRead {
         answer,
-        nodes: Nodes {
-            kinds: [0; 64],
-            firsts: [0; 64],
-            seconds: [0; 64],
-        },
-        opened: Opened {
-            counts: [0; 64],
-            threads: [0; 512],
-        },
+        table: [0; TABLE_END],
     }
+}
+
+// The fields of node k stored, and whether it can move, which the table has of the nodes it is made of.
+fn put_node(table: &mut [u8; TABLE_END], k: usize, kind: u16, first: u16, second: u16)
+    requires { ⌜ (k < maxNodes) × (kind < 256) × (second < 256) × (length (now table) ≡ tableEnd) × LowerNames maxNodes (nodeHeld kind first second) ⌝ }
+    ensures { λ _. ⌜ NodePut (now (table .entry)) k kind first second (now (table .exit)) ⌝ }
+{
+    let mark = movable_nodes::movable_by(table, kind, first, second);
+    table[KINDS + k] = kind as u8;
+    table[FIRST_LOWS + k] = (first % 256) as u8;
+    table[FIRST_HIGHS + k] = (first / 256) as u8;
+    table[SECONDS + k] = second as u8;
+    table[MOVABLES + k] = mark;
 }
 
 // n nodes, each with the threads that it opens to.
@@ -102,11 +114,7 @@ fn nodes_from(
     requires { ⌜ (at ≤ length (now s)) × (facts ≤ maxFacts) × («rule_count» ≤ maxRules) × (minNodes ≤ n) × (n ≤ maxNodes) ⌝ }
     ensures { λ r. ⌜ NodesFound (recordsFrom (nodeAt facts (rulesIn (now (rules .entry)) «rule_count») n (now (s .entry))) n [] at) (now (s .entry)) r ⌝ }
 {
-    let mut kinds = [0u8; 64];
-    let mut firsts = [0u16; 64];
-    let mut seconds = [0u16; 64];
-    let mut counts = [0u8; 64];
-    let mut threads = [0u8; 512];
+    let mut table = [0u8; TABLE_END];
     let mut p = at;
     let mut i: u16 = 0;
     while i < n {
@@ -116,28 +124,21 @@ fn nodes_from(
             return no_nodes(answer);
         };
         let k = i as usize;
-        let count = node_opening::open_node(&mut counts, &mut threads, kind, r.first, r.second, k);
+        let count = node_opening::open_node(&mut table, kind, r.first, r.second, k);
         if MAX_THREADS < count {
             return no_nodes(Section::Refused(refusals::WIDE_NODE, p));
         }
-        kinds[k] = kind as u8;
-        firsts[k] = r.first;
-        seconds[k] = r.second;
+        put_node(&mut table, k, kind, r.first, r.second);
         p = next;
         i += 1;
     }
     NodesRead {
         answer: Section::Got(n, p),
-        nodes: Nodes {
-            kinds,
-            firsts,
-            seconds,
-        },
-        opened: Opened { counts, threads },
+        table,
     }
 }
 
-// The nodes and the threads that each opens to. Beside a refusal the arrays are free.
+// The nodes and the threads that each opens to. Beside a refusal the arrays are zeros.
 pub fn nodes_at(s: &[u8], facts: u16, rules: &[u16; 64], rule_count: u16, at: usize) -> NodesRead
     requires { ⌜ (at ≤ length (now s)) × (facts ≤ maxFacts) × («rule_count» ≤ maxRules) ⌝ }
     ensures { λ r. ⌜ NodesFound (nodesAt facts (rulesIn (now (rules .entry)) «rule_count») (now (s .entry)) at) (now (s .entry)) r ⌝ }

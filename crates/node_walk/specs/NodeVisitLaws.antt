@@ -14,8 +14,8 @@ use Rattle.sheet_laws.specs.Ranks.{OfParts, Part, Ranked}
 use Rattle.moves.specs.Orders.{Move}
 use Rattle.node_moves.specs.NodeMoves.{NodeBeside}
 use Rattle.node_moves.specs.NodeMoveLaws.{moves-of-stop}
-use Rattle.sheet_types.specs.HeldSheet.{nodeHeld}
-use Rattle.movable_nodes.specs.Movability.{nodesHeld}
+use Rattle.sheet_types.specs.NodeTable.{Nodes, nodesOf}
+use Rattle.sheet_types.specs.HeldSheet.{nodeHeld, nodeIn, nodesIn}
 use Rattle.collected_moves.specs.CollectedMoves.{Grown, movesOf}
 use Rattle.collected_moves.specs.CollectedLaws.{grown-refl, grown-trans}
 use Rattle.set_growth.specs.SetGrowth.{Growth, InHand}
@@ -25,41 +25,39 @@ use Rattle.walk_state.specs.declared.Walk.{Walk}
 use Rattle.walk_state.specs.declared.Walked.{Walked}
 use Rattle.walk_state.specs.declared.Walked.the-variants.{On, Over}
 use Rattle.walk_state.specs.WalkState.{NodesLent, NodesOf, VisitFits, Walking, InReach, Covering, OnSheet, Carried, TurnOn, TurnOver, Turned}
-use Rattle.walk_state.specs.NotedInWalk.{noted-none, noted-turn}
+use Rattle.walk_state.specs.NotedInWalk.{grown-sheet, noted-none, noted-turn}
 use Rattle.both_either_visits.specs.StoredParts.{NodeKnown}
 use Rattle.node_marks.specs.declared.Marked.{Marked}
 use Rattle.node_marks.specs.NodeMarks.{SeenAs}
 use Rattle.node_walk.specs.NodeVisits.{WalkedOn}
-use Rattle.node_marks.specs.MarkLaws.{grown-sheet, unstacked, last-entry, marked-walking, marked-turn, marked-turn-over, passed-turn}
+use Rattle.node_marks.specs.MarkLaws.{unstacked, last-entry, marked-walking, marked-turn, marked-turn-over, passed-turn}
 
 -- ---- a node by its kind byte and its fields
-module _ (kinds firsts seconds : List ℕ) (n k : ℕ) (l : k < n) where
-  abbrev Is : Node → Type 0
-  Is v = nodeOf (nodesHeld kinds firsts seconds n) k ≡ v
+pub record HeldBy (v : Node) (kind first second : ℕ) : Type 0 where
+  pub is : v ≡ nodeHeld kind first second
 
-  held-at : Is (nodeHeld (getD kinds k 0) (getD firsts k 0) (getD seconds k 0))
-  held-at = tabulate-at (λ i. nodeHeld (getD kinds i 0) (getD firsts i 0) (getD seconds i 0)) n k stop l
+pub held-at : (ns : Nodes) (n k : ℕ) → k < n → {kind first second : ℕ} → kind ≡ getD (ns .kinds) k 0 → first ≡ getD (ns .firsts) k 0
+    → second ≡ getD (ns .seconds) k 0 → HeldBy (nodeOf (nodesIn ns n) k) kind first second
+held-at ns n k l x y z = record { is = rw (x, y, z) (tabulate-at (nodeIn ns) n k stop l) }
 
-  of-kind : (i : ℕ) → getD kinds k 0 ≡ i → Is (nodeHeld i (getD firsts k 0) (getD seconds k 0))
-  of-kind i e = held-at ∙ ap (λ (j : ℕ). nodeHeld j (getD firsts k 0) (getD seconds k 0)) e
+module _ {v : Node} {kind first second : ℕ} (h : HeldBy v kind first second) where
+  of-kind : (i : ℕ) → kind ≡ i → v ≡ nodeHeld i first second
+  of-kind i e = h .is ∙ ap (λ (j : ℕ). nodeHeld j first second) e
 
-  pub held-stop : getD kinds k 0 ≡ 0 → Is stop
+  pub held-stop : kind ≡ 0 → v ≡ stop
   held-stop e = of-kind 0 e
 
-  pub held-tell : getD kinds k 0 ≡ 1 → Is (tell (getD firsts k 0))
+  pub held-tell : kind ≡ 1 → v ≡ tell first
   held-tell e = of-kind 1 e
 
-  pub held-ask : getD kinds k 0 ≡ 2 → Is (ask (getD firsts k 0) (getD seconds k 0))
+  pub held-ask : kind ≡ 2 → v ≡ ask first second
   held-ask e = of-kind 2 e
 
-  pub held-both : getD kinds k 0 ≡ 3 → Is (both (getD firsts k 0) (getD seconds k 0))
+  pub held-both : kind ≡ 3 → v ≡ both first second
   held-both e = of-kind 3 e
 
-  pub held-either : (getD kinds k 0 ≡ 0 → ⊥) → (getD kinds k 0 ≡ 1 → ⊥) → (getD kinds k 0 ≡ 2 → ⊥) → (getD kinds k 0 ≡ 3 → ⊥)
-      → Is (either (getD firsts k 0) (getD seconds k 0))
-  held-either a b c d =
-      held-at
-      ∙ simp (ne-eqb (getD kinds k 0) 0 a, ne-eqb (getD kinds k 0) 1 b, ne-eqb (getD kinds k 0) 2 c, ne-eqb (getD kinds k 0) 3 d)
+  pub held-either : (kind ≡ 0 → ⊥) → (kind ≡ 1 → ⊥) → (kind ≡ 2 → ⊥) → (kind ≡ 3 → ⊥) → v ≡ either first second
+  held-either a b c d = h .is ∙ simp (ne-eqb kind 0 a, ne-eqb kind 1 b, ne-eqb kind 2 c, ne-eqb kind 3 d)
 
 -- the parts of a both and of an either
 module _ {rank : ℕ → ℕ} {b : Basis} {nodes : List Node} (of : NodesOf rank b nodes) (k : ℕ) where
@@ -74,17 +72,16 @@ module _ {rank : ℕ → ℕ} {b : Basis} {nodes : List Node} (of : NodesOf rank
   pub parts-either : {p q : ℕ} → nodeOf nodes k ≡ either p q → Part rank (b .nodes) k p × Part rank (b .nodes) k q
   parts-either e = parts-by e
 
-module _ {rank : ℕ → ℕ} {kinds firsts seconds counts threads movables : List ℕ} {b : Basis}
-    (h : NodesLent rank kinds firsts seconds counts threads movables b) where
+module _ {rank : ℕ → ℕ} {table : List ℕ} {b : Basis} (h : NodesLent rank table b) where
   -- as many nodes are held as there are
-  pub lent-nodes : NodesOf rank b (nodesHeld kinds firsts seconds (b .nodes))
+  pub lent-nodes : NodesOf rank b (nodesIn (nodesOf table) (b .nodes))
   lent-nodes =
       record {
-        count = tabulate-length (λ i. nodeHeld (getD kinds i 0) (getD firsts i 0) (getD seconds i 0)) (b .nodes);
+        count = tabulate-length (nodeIn (nodesOf table)) (b .nodes);
         ranked = h .ranked;
       }
 
-  pub lent-known : (k : ℕ) → k < b .nodes → NodeKnown (nodesHeld kinds firsts seconds (b .nodes)) counts threads movables k
+  pub lent-known : (k : ℕ) → k < b .nodes → NodeKnown (nodesIn (nodesOf table) (b .nodes)) table k
   lent-known k l = record { opens = h .opens k l; mark = h .movable .at k l }
 
 -- ---- a stop gives nothing

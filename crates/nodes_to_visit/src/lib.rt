@@ -10,7 +10,7 @@ ghost use Rattle.sheet_laws.specs.Ranks.{rankOf};
 ghost use Rattle.packing.specs.Packing.{PackedIn};
 ghost use Rattle.threads_beside.specs.ThreadsBeside.{nodeBeside, nodeFor};
 ghost use Rattle.nodes_to_visit.specs.NodesToVisit.{PendingPacked, pendingOne, Pushed, Entered};
-ghost use Rattle.nodes_to_visit.specs.EntryPlaces.{SpotIs};
+ghost use Rattle.nodes_to_visit.specs.EntryPlaces.{SideIs, SpotIs};
 ghost use Rattle.work_layout.specs.WorkLayout.{pendingEnd};
 
 // An entry that is there already, or the place where it is to be put in.
@@ -47,10 +47,10 @@ pub fn rank_of(node: usize) -> usize
     node
 }
 
-// An entry y beside x: 1 where it is the same; 2 where it has the same threads and a node whose rank is not below that of x and is
-// below n; else 0.
+// An entry y beside x: 1 where it is the same; 2 where its two numbers of threads are the same and its node has a rank that is not
+// below that of x and is below n; else 0.
 fn side(y: Numbers, x: Numbers, n: usize) -> u8
-    ensures { λ r. ⌜ (r ≡ 1 → nodeFor y ≡ nodeFor x) × (r ≡ 2 → rankOf (nodeFor y .node) < n) ⌝ }
+    ensures { λ r. ⌜ SideIs rankOf n x y r ⌝ }
 {
     if y.b != x.b {
         return 0;
@@ -68,11 +68,11 @@ fn side(y: Numbers, x: Numbers, n: usize) -> u8
     if rank < n { 2 } else { 0 }
 }
 
-// Where x is among the first `top` entries, or is to be put in: below those of the last ones that have the same threads and a rank
-// not below that of x and below n.
+// Where x is among the first `top` entries, or is to be put in: below those of the last ones that have the same two numbers of
+// threads and a rank not below that of x and below n.
 fn spot_of(work: &[u32], top: usize, n: usize, x: Numbers) -> Spot
     requires { ⌜ (top < 64) × (pendingEnd ≤ length (now work)) × ((i : ℕ) → i < top → PendingPacked (now work) i) ⌝ }
-    ensures { λ r. ⌜ SpotIs rankOf (now (work .entry)) top n (nodeFor x) (r .found) (r .at) ⌝ }
+    ensures { λ r. ⌜ SpotIs rankOf (now (work .entry)) top n x (r .found) (r .at) ⌝ }
 {
     let mut i = top;
     while 0 < i {
@@ -111,8 +111,8 @@ fn raise(work: &mut [u32], from: usize, to: usize)
 }
 
 // Enters a node with the threads of e beside it among the nodes to visit, of which there are `top`: nothing is stored where it is
-// there already among the last ones; otherwise it is put below those of the last ones that have the same threads and a rank not
-// below its own and below n. Gives how many there are then.
+// there already among the last ones; otherwise it is put below those of the last ones that have the same two numbers of threads and
+// a rank not below its own and below n. Gives how many there are then.
 pub fn enter(work: &mut [u32], top: usize, n: usize, node: u16, e: NodeBeside) -> usize
     requires { ⌜ (top < 64) × (pendingEnd ≤ length (now work)) × (e .count ≤ 8) × ((i : ℕ) → i < top → PendingPacked (now work) i) ⌝ }
     ensures { λ r. ⌜ Entered rankOf (now (work .entry)) top n (record { node = node; threads = nodeBeside e .threads }) (now (work .exit)) r ⌝ }

@@ -39,18 +39,16 @@ impl Numbers {
     }
 }
 
-fn wide(x: u8) -> u32
-    ensures { λ r. ⌜ (r ≡ x) × (r < 256) ⌝ }
-{
-    x as u32
-}
-
 // Thread i of the first count, 0 where there is none.
 fn byte_in(threads: &[u8], count: usize, i: usize) -> u32
     requires { ⌜ count ≤ length (now threads) ⌝ }
     ensures { λ r. ⌜ (r ≡ getD (take count (now (threads .entry))) i 0) × (r < 256) ⌝ }
 {
-    if i < count { wide(threads[i]) } else { 0 }
+    if i < count {
+        small_numbers::wide_u32(threads[i])
+    } else {
+        0
+    }
 }
 
 // Four of the first count threads as one number.

@@ -2,8 +2,8 @@
 use mathlib.Core.Path.{_≡_}
 use mathlib.Core.Logic.{_⊎_}
 use mathlib.Core.List.{List}
-use Prim.Native.Nat.{ℕ, _*_, _≤_, _<_}
-use lib.ListN.{length, getD, take, drop}
+use Prim.Native.Nat.{ℕ, _≤_, _<_}
+use lib.ListN.{length}
 use Rattle.list_laws.specs.SortingLaws.{insertAll}
 use Rattle.node_moves.specs.NodeMoves.{NodeBeside}
 use Rattle.nodes_to_visit.specs.NodesToVisit.{Entered}
@@ -11,10 +11,6 @@ use Rattle.walk_state.specs.declared.Walk.{Walk}
 use Rattle.walk_state.specs.declared.Walked.{Walked}
 use Rattle.walk_state.specs.declared.Walked.the-variants.{On, Over}
 use Rattle.walk_state.specs.PushedInWalk.{topped}
-
--- the threads held for node k
-abbrev pub threadsAt : List ℕ → List ℕ → ℕ → List ℕ
-threadsAt counts threads k = take (getD counts k 0) (drop (8 * k) threads)
 
 -- node p with these threads put among those beside e
 abbrev pub besideOf : ℕ → List ℕ → NodeBeside → NodeBeside

@@ -10,6 +10,7 @@ use Rattle.sheets.specs.Sheet.{Sheet}
 use Rattle.sheet_reading.specs.Reading.{Reading, got, refused}
 use Rattle.set_closure.specs.RuleTable.{ruleIn}
 use Rattle.sheet_types.specs.HeldSheet.{nodeIn, configuration, noConfiguration, sheetOf}
+use Rattle.sheet_types.specs.NodeTable.{nodesOf}
 use Rattle.sheet_types.specs.declared.Sheet as held
 use Rattle.sheet_types.specs.declared.SheetRead.{SheetRead}
 use Rattle.sheet_types.specs.declared.Section.the-variants.{Got, Refused}
@@ -32,6 +33,6 @@ module _ (m : Reading Sheet) (r : SheetRead) (found : SheetFound m r) where
       ap readingLine (with-got (λ _. sheetOf (r .sheet)) (found .reading) a)
       ∙ rw (
         tabulate-length (ruleIn (r .sheet .rules)) (r .sheet .«rule_count»),
-        tabulate-length (nodeIn (r .sheet .nodes)) (r .sheet .«node_count»),
+        tabulate-length (nodeIn (nodesOf (r .sheet .table))) (r .sheet .«node_count»),
         tabulate-length (λ i. configuration (getD (r .sheet .starts) i noConfiguration)) (r .sheet .«start_count»),
       )

@@ -12,19 +12,19 @@ use Rattle.comparison.specs.Classes.{placeOf}
 use Rattle.comparison.specs.Trail.{TrailStep}
 use Rattle.comparison.specs.Report.{Report, sideByte, replyNumber}
 use Rattle.report_records.specs.RecordLayout.{PackedAt, sideIn, labelIn, targetIn, replyIn}
-use Rattle.work_layout.specs.WorkLayout.{workEnd}
+use Rattle.work_layout.specs.WorkLayout.{workEnd, memberRoom}
 use Rattle.work_layout.specs.ClassLayout.{classIn}
 
 -- n members can be read from the slice
 pub record MembersHeld (w : List ℕ) (n : ℕ) : Type 0 where
   pub long : workEnd ≤ length w
-  pub few : n ≤ 512
+  pub few : n ≤ memberRoom
   pub packed : (i : ℕ) → i < n → PackedAt w i
 
 -- k steps can be read from the slice, their sides as bytes
 pub record StepsHeld (w : List ℕ) (k : ℕ) : Type 0 where
   pub long : workEnd ≤ length w
-  pub few : k ≤ 512
+  pub few : k ≤ memberRoom
   pub sides : (i : ℕ) → i < k → sideIn w i < 256
 
 -- a report of n members and k steps can be read from the slice

@@ -7,7 +7,7 @@ ghost use Rattle.packing.specs.Packing.{eightBytes};
 ghost use Rattle.sheets.specs.SheetBytes.{wordBytes};
 ghost use Rattle.text.specs.Slices.{Stored};
 ghost use Rattle.report_records.specs.RecordLayout.{PackedAt, sideIn, memberBytesAt, stepBytesAt};
-ghost use Rattle.work_layout.specs.WorkLayout.{workEnd};
+ghost use Rattle.work_layout.specs.WorkLayout.{workEnd, memberRoom};
 
 // Stores two bytes, the low one first, and gives the place after them.
 pub fn put_word(out: &mut [u8], at: usize, x: u32) -> usize
@@ -34,7 +34,7 @@ fn put_threads(out: &mut [u8], at: usize, b: u32, c: u32, count: usize) -> usize
 
 // Stores the member at place i: store, thread count, threads, class.
 pub fn put_member(work: &[u32], i: usize, out: &mut [u8], at: usize) -> usize
-    requires { ⌜ (workEnd ≤ length (now work)) × (i < 512) × PackedAt (now work) i × (at + length (memberBytesAt (now work) i) ≤ length (now out)) ⌝ }
+    requires { ⌜ (workEnd ≤ length (now work)) × (i < memberRoom) × PackedAt (now work) i × (at + length (memberBytesAt (now work) i) ≤ length (now out)) ⌝ }
     ensures { λ r. ⌜ Stored (now (out .entry)) at (memberBytesAt (now (work .entry)) i) (now (out .exit)) r ⌝ }
 {
     let a = work[work_layout::MEMBERS + 3 * i];
@@ -49,7 +49,7 @@ pub fn put_member(work: &[u32], i: usize, out: &mut [u8], at: usize) -> usize
 
 // Stores step i: side, label, mover's target, reply's target.
 pub fn put_step(work: &[u32], i: usize, out: &mut [u8], at: usize) -> usize
-    requires { ⌜ (workEnd ≤ length (now work)) × (i < 512) × (sideIn (now work) i < 256) × (at + 7 ≤ length (now out)) ⌝ }
+    requires { ⌜ (workEnd ≤ length (now work)) × (i < memberRoom) × (sideIn (now work) i < 256) × (at + 7 ≤ length (now out)) ⌝ }
     ensures { λ r. ⌜ Stored (now (out .entry)) at (stepBytesAt (now (work .entry)) i) (now (out .exit)) r ⌝ }
 {
     let x = work[STEPS + 3 * i + 1];

@@ -30,7 +30,7 @@ use Rattle.dominators.specs.KeptMoves.{noMove, moveOf, MoveKept, RoundHeld, Mem
 use Rattle.dominance_tests.specs.KeptNumbers.{KeptFits}
 use Rattle.dominators.specs.SliceShapes.{Stands, stands-same, SpanFits, SpanOnly, only-none, only-then, MemberOnly, LinedOnly, span-lined, lined-class, lined-member, lined-fits}
 use Rattle.dominators.specs.DominatorSearch.{Judged}
-use Rattle.work_layout.specs.WorkLayout.{movesAt, dominatorsAt, lineTotalsAt, classesAt, linesAt}
+use Rattle.work_layout.specs.WorkLayout.{movesAt, dominatorsAt, lineTotalsAt, classesAt, linesAt, moveRoom}
 use Rattle.work_layout.specs.ClassLayout.{classIn}
 
 -- how many lines the member at place i has
@@ -147,7 +147,7 @@ pub record LineMoved (w : List ℕ) (n first total j end : ℕ) (v : List ℕ) (
       × LinesSoFar sheet set numbers p (j + 1) (numbersIn v (linesAt + first) r)
 
 -- only the number that is kept for the move at j differs
-pub judged-only : {w v : List ℕ} {n first j : ℕ} {b : Bool} → Judged w n first j v b → (total : ℕ) → j < total → first + total ≤ 4096
+pub judged-only : {w v : List ℕ} {n first j : ℕ} {b : Bool} → Judged w n first j v b → (total : ℕ) → j < total → first + total ≤ moveRoom
     → SpanOnly first total w v
 judged-only {w} {v} {n} {first} {j} J total h s = record {
   long = J .outside .long;

@@ -1,5 +1,5 @@
 -- The lines of every member of the set.
-use mathlib.Core.Path.{_≡_, sym, ap, ap₂, _∙_, subst}
+use mathlib.Core.Path.{_≡_, refl, sym, ap, ap₂, _∙_, subst}
 use mathlib.Core.Logic.{_⊎_, inl, inr}
 use mathlib.Core.List.{List}
 use Prim.Native.Nat.{ℕ, _+_, _-_, _*_, _%_, _≤_, _<_}
@@ -20,7 +20,7 @@ use Rattle.dominance_tests.specs.KeptNumbers.{KeptFits}
 use Rattle.dominators.specs.SliceShapes.{keptAt, targetAt, Stands, stands-same, SpanFits, Shape, LinedOnly, lined-none, lined-then, member-lined, lined-set, lined-class, lined-first, lined-total, lined-round, lined-fits}
 use Rattle.round_lines.specs.MemberLinesFound.{lineTotal, MemberDone}
 use Rattle.round_lines.specs.WatchingMembers.{SetsGrown, grown-none, grown-then, MoveWatched, MemberWatches}
-use Rattle.work_layout.specs.WorkLayout.{movesAt, dominatorsAt, lineTotalsAt, linesAt}
+use Rattle.work_layout.specs.WorkLayout.{movesAt, dominatorsAt, lineTotalsAt, linesAt, memberRoom}
 
 -- the lines of the member at place i stand in the slice
 pub record MemberLined (sheet : Sheet) (set : List Configuration) (numbers w : List ℕ) (i : ℕ) : Type 0 where
@@ -37,8 +37,13 @@ pub record LinesKept (sheet : Sheet) (set : List Configuration) (numbers w ws : 
 abbrev pub InList : List ℕ → ℕ → ℕ → Type 0
 InList list k i = (j : ℕ) × (j < k) × (getD list j 0 ≡ i)
 
--- v and vs came from w and ws: the members at the first k places of the list are ready, those that were ready stay so. Free: what the sets
--- have beside those that are looked at, and the lines of members that are not ready.
+-- the lines of the member at place i and their number are those of w
+pub record LinesLeft (w v : List ℕ) (i : ℕ) : Type 0 where
+  pub total : lineTotal v i ≡ lineTotal w i
+  pub lines : (e : ℕ) → linesAt + firstMove w i ≤ e → e < linesAt + firstMove w i + moveTotal w i → getD v e 0 ≡ getD w e 0
+
+-- v and vs came from w and ws: the members at the first k places of the list are ready, those that were ready stay so, and the lines of
+-- members that are not in the list are left alone. Free: what the sets have beside those that are looked at.
 pub record SetLined (w ws : List ℕ) (width n : ℕ) (list : List ℕ) (k : ℕ) (v vs : List ℕ) : Type 0 where
   pub only : LinedOnly w v
   pub shape : Shape v n
@@ -47,13 +52,14 @@ pub record SetLined (w ws : List ℕ) (width n : ℕ) (list : List ℕ) (k : ℕ
       → DominatorsKept sheet set w n numbers
       → DominatorsKept sheet set v n numbers
       × ((i : ℕ) → i < n → InList list k i ⊎ LinesKept sheet set numbers w ws width n i → LinesKept sheet set numbers v vs width n i)
+      × ((i : ℕ) → i < n → (InList list k i → ⊥) → LinesLeft w v i)
 
 pub set-lined-first : (w ws : List ℕ) (width n : ℕ) (list : List ℕ) → Shape w n → SetLined w ws width n list 0 w ws
 set-lined-first w ws width n list S = record {
   only = lined-none w;
   shape = S;
   grown = grown-none ws;
-  lines = λ sheet set numbers m r R D. (D, (λ i l x. go sheet set numbers i x));
+  lines = λ sheet set numbers m r R D. (D, (λ i l x. go sheet set numbers i x), (λ i l d. record { total = refl; lines = λ e a b. refl }));
 }
   where
     go : (sheet : Sheet) (set : List Configuration) (numbers : List ℕ) (i : ℕ)
@@ -75,7 +81,7 @@ module _ (n : ℕ) (v : List ℕ) (shape : Shape v n) (k : ℕ) (h : k < n) (u :
   o : LinedOnly v u
   o = member-lined (omega (arith, shape .few)) (fit k h .span) (D .only)
 
-  small : (i : ℕ) → i < n → i < 512
+  small : (i : ℕ) → i < n → i < memberRoom
   small i l = omega (arith, shape .few)
 
   -- what is kept can be read
@@ -151,7 +157,7 @@ module _ (n : ℕ) (v : List ℕ) (shape : Shape v n) (k : ℕ) (h : k < n) (u :
     same-target : (i : ℕ) → i < n → (j : ℕ) → j < t i → targetAt u (f i) j ≡ targetAt v (f i) j
     same-target i l j b = ap (λ (x : ℕ). x % 65536) (o .at-set (movesAt + f i + j) (omega arith) (omega (arith, fit i l .span)))
 
-    near : (i : ℕ) → i < n → (j : ℕ) → j < t i → targetAt v (f i) j ≤ 512
+    near : (i : ℕ) → i < n → (j : ℕ) → j < t i → targetAt v (f i) j ≤ memberRoom
     near i l j b = omega (arith, fit i l .targets j b, shape .few)
 
     this-lined : MemberLined sheet set numbers u k
@@ -165,10 +171,15 @@ module _ (n : ℕ) (v : List ℕ) (shape : Shape v n) (k : ℕ) (h : k < n) (u :
     this-stands j b = subst (λ (a : ℕ). Stands u a j) (sym (same-first k h)) (D .stands j (omega (arith, lined-total o k (small k h))))
 
     module _ (i : ℕ) (l : i < n) (d : k ≡ i → ⊥) where
+      other-left : LinesLeft v u i
+      other-left = record {
+        total = D .only .between (lineTotalsAt + i) (λ q. d (omega arith)) (omega (arith, fit k h .span)) (omega (arith, small i l));
+        lines = high i l d;
+      }
+
       other-lined : MemberLined sheet set numbers v i → MemberLined sheet set numbers u i
       other-lined x =
-          let z : lineTotal u i ≡ lineTotal v i =
-          D .only .between (lineTotalsAt + i) (λ q. d (omega arith)) (omega (arith, fit k h .span)) (omega (arith, small i l)) in
+          let z : lineTotal u i ≡ lineTotal v i = other-left .total in
           record {
             few = omega (arith, x .few, lined-total o i (small i l));
             lines = ap₂ (λ (a s : ℕ). numbersIn u (linesAt + a) (linesAt + a + s)) (same-first i l) z
@@ -209,9 +220,21 @@ module _ (w ws : List ℕ) (width n : ℕ) (list : List ℕ) (k : ℕ) (v vs : L
         let held = lined-round (S .only) R in (
           next-kept n v (S .shape) i h u D sheet set numbers m r held (x .0),
           (λ p l y. go sheet set numbers m r held (x .0) (x .1) p l y (tested (eqb i p))),
+          (λ p l d. left p l (x .2 p l (λ y. d (y .0, omega (arith, y .1), y .2)))
+              (other-left n v (S .shape) i h u D sheet set numbers m r held (x .0) p l (λ e. d (k, omega arith, is ∙ e)))),
         );
   }
     where
+      left : (p : ℕ) → p < n → LinesLeft w v p → LinesLeft v u p → LinesLeft w u p
+      left p l a b =
+          let q : p < memberRoom = omega (arith, S .shape .few) in
+          record {
+            total = b .total ∙ a .total;
+            lines = λ e f g.
+                b .lines e (omega (arith, lined-first (S .only) p q)) (omega (arith, lined-first (S .only) p q, lined-total (S .only) p q))
+                ∙ a .lines e f g;
+          }
+
       before : (p : ℕ) → (i ≡ p → ⊥) → InList list (k + 1) p → InList list k p
       before p d x = (x .0, less (tested (eqb (x .0) k)), x .2)
         where

@@ -15,12 +15,12 @@ ghost use Rattle.dominators.specs.SliceShapes.{targetAt, SpanFits, Shape};
 ghost use Rattle.round_lines.specs.MemberLinesFound.{LineMoved, MemberDone};
 ghost use Rattle.round_lines.specs.WatchingMembers.{SetsGrown, MoveWatched, MemberWatches};
 ghost use Rattle.round_lines.specs.SetLinesFound.{SetLined};
-ghost use Rattle.work_layout.specs.WorkLayout.{workEnd, linesAt};
+ghost use Rattle.work_layout.specs.WorkLayout.{workEnd, linesAt, memberRoom, moveRoom};
 ghost use Rattle.work_layout.specs.ClassLayout.{classIn};
 
 // The line of a move: its label and the class of its target.
 fn line_of(work: &[u32], y: u32) -> u32
-    requires { ⌜ (y % 65536 ≤ 512) × (classIn (now work) (y % 65536) < 65536) × (workEnd ≤ length (now work)) ⌝ }
+    requires { ⌜ (y % 65536 ≤ memberRoom) × (classIn (now work) (y % 65536) < 65536) × (workEnd ≤ length (now work)) ⌝ }
     ensures { λ r. ⌜ r ≡ packedLine (y / 65536) (classIn (now (work .entry)) (y % 65536)) ⌝ }
 {
     y / 65536 * 65536 + work_layout::class_at(work, (y % 65536) as usize)
@@ -70,7 +70,7 @@ fn watch_move(
     j: usize,
     i: usize,
 )
-    requires { ⌜ (first + j < 4096) × (workEnd ≤ length (now work)) × (n ≤ 512) × (targetAt (now work) first j < n) × (i < 64 * width) × (width ≤ 8)
+    requires { ⌜ (first + j < moveRoom) × (workEnd ≤ length (now work)) × (n ≤ memberRoom) × (targetAt (now work) first j < n) × (i < 64 * width) × (width ≤ 8)
         × (n * width ≤ length (now sets)) ⌝ }
     ensures { λ _. ⌜ SetsGrown (now (sets .entry)) (now (sets .exit)) × MoveWatched (now (work .entry)) (now (sets .exit)) width n first j i ⌝ }
 {
@@ -105,7 +105,7 @@ pub fn line_listed(
     list: &[u16; 512],
     k: usize,
 )
-    requires { ⌜ Shape (now work) n × (k ≤ 512) × ((j : ℕ) → j < k → getD (now list) j 0 < n) × (n ≤ 64 * width) × (width ≤ 8)
+    requires { ⌜ Shape (now work) n × (k ≤ memberRoom) × ((j : ℕ) → j < k → getD (now list) j 0 < n) × (n ≤ 64 * width) × (width ≤ 8)
         × (n * width ≤ length (now sets)) ⌝ }
     ensures { λ _. ⌜ SetLined (now (work .entry)) (now (sets .entry)) width n (now (list .entry)) k (now (work .exit)) (now (sets .exit)) ⌝ }
 {

@@ -14,8 +14,9 @@ use Rattle.place_sets.specs.PlaceSets.{placeDigit, InSet, United, Listed}
 use Rattle.place_sets.specs.PlaceLaws.{united-left, united-right}
 use Rattle.round_lines.specs.SetLinesFound.{InList}
 use Rattle.class_splits.specs.ClassedPlaces.{chosenIn, Classed}
-use Rattle.round_steps.specs.ChosenMembers.{Rechosen, rechosen-classed}
-use Rattle.work_layout.specs.WorkLayout.{chosenAt, linesAt}
+use Rattle.class_splits.specs.ChosenPlaces.{chosen-classed}
+use Rattle.round_steps.specs.ChosenMembers.{Rechosen}
+use Rattle.work_layout.specs.WorkLayout.{chosenAt, linesAt, memberRoom}
 use Rattle.work_layout.specs.ClassLayout.{classIn}
 
 -- the first k numbers of the list are places below n, in ascending order
@@ -113,12 +114,12 @@ module _ (w ws : List ℕ) (width n old : ℕ) (list : List ℕ) (k : ℕ) (awak
           )
 
   -- members at rest were chosen
-  pub next-chosen : n ≤ 512 → (v : List ℕ) → Rechosen w n awake n v → NextListed w ws width n old list k v next r
+  pub next-chosen : n ≤ memberRoom → (v : List ℕ) → Rechosen w n awake n v → NextListed w ws width n old list k v next r
   next-chosen few v R = record {
     only = R .only;
     fits = fits-next;
     woken = woken-listed;
-    classed = λ count C. rechosen-classed R few C;
+    classed = λ count C. chosen-classed R (λ i p. p .0) few C;
     rest = λ count C i l. go i l (tested (eqb (placeDigit awake 0 i) 1));
   }
     where
@@ -129,5 +130,5 @@ module _ (w ws : List ℕ) (width n old : ℕ) (list : List ℕ) (k : ℕ) (awak
       go i l (passes e) = inl (L .all i l (eqb-true (placeDigit awake 0 i) 1 e))
       go i l (fails e) =
           let d : InSet awake 0 i → ⊥ = eqb-false (placeDigit awake 0 i) 1 e in
-          let x = R .rest i l d in
-          inr (not-listed i d, x .1, not-listed (chosenIn v (classIn w i)) (x .2), x .3)
+          let x = R .chosen i (l, d) in
+          inr (not-listed i d, x .1 .0, not-listed (chosenIn v (classIn w i)) (x .1 .1), x .2)

@@ -14,7 +14,7 @@ use Rattle.list_laws.specs.TestLaws.{true-false, not-passes, Tested, tested, pa
 use Rattle.list_laws.specs.Frames.{SameOutside, outside-same, outside-set, outside-again}
 use Rattle.work_layout.specs.SetLayout.{memberAt}
 use Rattle.class_splits.specs.ClassedPlaces.{chosenIn, Classed, classed-new, classed-append}
-use Rattle.work_layout.specs.WorkLayout.{workEnd, membersAt, classesAt, birthsAt, chosenAt, linesAt}
+use Rattle.work_layout.specs.WorkLayout.{workEnd, membersAt, classesAt, birthsAt, chosenAt, linesAt, memberRoom}
 use Rattle.work_layout.specs.ClassLayout.{classIn}
 
 -- the store of the member at place i
@@ -78,8 +78,8 @@ founding-first v = record {
   same-class = λ s j k l. absurd (omega arith);
 }
 
-module _ (v : List ℕ) (i : ℕ) (w : List ℕ) (count : ℕ) (F : Founding v i w count) (small : i < 512) (long : workEnd ≤ length v) where
-  store-same : (j : ℕ) → j < 512 → storeIn w j ≡ storeIn v j
+module _ (v : List ℕ) (i : ℕ) (w : List ℕ) (count : ℕ) (F : Founding v i w count) (small : i < memberRoom) (long : workEnd ≤ length v) where
+  store-same : (j : ℕ) → j < memberRoom → storeIn w j ≡ storeIn v j
   store-same j h = ap (λ (x : ℕ). x / 256) (F .only .at (membersAt + 3 * j) (inl (omega arith)))
 
   rise-less : StoresRise v (i + 1) → StoresRise v i
@@ -137,7 +137,7 @@ module _ (v : List ℕ) (i : ℕ) (w : List ℕ) (count : ℕ) (F : Founding v i
       own : classIn x i ≡ count
       own = getD-set-same b (classesAt + i) count 0 (omega (arith, lb))
 
-      classes : (j : ℕ) → j < 512 → (j ≡ i → ⊥) → classIn x j ≡ classIn w j
+      classes : (j : ℕ) → j < memberRoom → (j ≡ i → ⊥) → classIn x j ≡ classIn w j
       classes j h e =
           getD-set-other b (classesAt + i) (classesAt + j) count 0 (λ z. e (omega arith))
           ∙ getD-set-other a (chosenAt + count) (classesAt + j) i 0 (λ z. omega arith)

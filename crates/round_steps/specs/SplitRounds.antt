@@ -19,7 +19,7 @@ use Rattle.round_lines.specs.MemberLinesFound.{lineTotal}
 use Rattle.class_splits.specs.ClassedPlaces.{chosenIn, Classed, classed-count, classed-spare, classed-join, classed-new}
 use Rattle.class_splits.specs.LineTests.{linesHeld, PartFits}
 use Rattle.class_splits.specs.MemberSplits.{MemberReady, MemberSplit, keeps, joins, begins}
-use Rattle.work_layout.specs.WorkLayout.{workEnd, spansAt, lineTotalsAt, classesAt, birthsAt, chosenAt, linesAt}
+use Rattle.work_layout.specs.WorkLayout.{workEnd, spansAt, lineTotalsAt, classesAt, birthsAt, chosenAt, linesAt, memberRoom, moveRoom}
 use Rattle.work_layout.specs.ClassLayout.{classIn, bornIn, fromIn}
 
 -- from v, with `old` classes, on: w has `count` classes, and the members that are done have theirs
@@ -58,11 +58,11 @@ splitting-first v n round old C Done none = record {
   apart-new = λ c d h l. absurd (omega arith);
 }
 
--- all are done where each is done or has the lines of its class's chosen member from the start
-pub splitting-all : {v : List ℕ} {n round old : ℕ} {w : List ℕ} {count : ℕ} {Done : ℕ → Type 0} → Splitting v n round old w count Done
-    → ((i : ℕ) → i < n → Done i ⊎ (linesHeld v i ≡ linesHeld v (chosenIn v (classIn v i))))
-    → Splitting v n round old w count (λ i. i < n)
-splitting-all {v} {n} {round} {old} {w} {count} {Done} Z f = record {
+-- others are done too, where each of them has the lines of its class's chosen member
+splitting-done : {v : List ℕ} {n round old : ℕ} {w : List ℕ} {count : ℕ} {Done More : ℕ → Type 0} → Splitting v n round old w count Done
+    → ((i : ℕ) → i < n → Done i → More i) → ((i : ℕ) → i < n → More i → linesHeld v i ≡ linesHeld v (chosenIn w (classIn w i)))
+    → Splitting v n round old w count More
+splitting-done Z up same = record {
   only = Z .only;
   classed = Z .classed;
   more = Z .more;
@@ -71,11 +71,18 @@ splitting-all {v} {n} {round} {old} {w} {count} {Done} Z f = record {
   old-chosen = Z .old-chosen;
   kept = Z .kept;
   came = Z .came;
-  moved = λ i l h. l;
-  alike = λ i l d. go i l (f i l) (tested (ltb (classIn w i) old));
+  moved = λ i l h. up i l (Z .moved i l h);
+  alike = same;
   apart-old = Z .apart-old;
   apart-new = Z .apart-new;
 }
+
+-- all are done where each is done or has the lines of its class's chosen member from the start
+pub splitting-all : {v : List ℕ} {n round old : ℕ} {w : List ℕ} {count : ℕ} {Done : ℕ → Type 0} → Splitting v n round old w count Done
+    → ((i : ℕ) → i < n → Done i ⊎ (linesHeld v i ≡ linesHeld v (chosenIn v (classIn v i))))
+    → Splitting v n round old w count (λ i. i < n)
+splitting-all {v} {n} {round} {old} {w} {count} {Done} Z f =
+    splitting-done Z (λ i l d. l) (λ i l d. go i l (f i l) (tested (ltb (classIn w i) old)))
   where
     go : (i : ℕ) → i < n → Done i ⊎ (linesHeld v i ≡ linesHeld v (chosenIn v (classIn v i))) → Tested (ltb (classIn w i) old)
         → linesHeld v i ≡ linesHeld v (chosenIn w (classIn w i))
@@ -87,21 +94,21 @@ splitting-all {v} {n} {round} {old} {w} {count} {Done} Z f = record {
 
 -- what is stored for classes leaves the lines alone
 module _ {v w : List ℕ} (s : SameOutside classesAt linesAt v w) where
-  pub first-move-same : (i : ℕ) → i < 512 → firstMove w i ≡ firstMove v i
+  pub first-move-same : (i : ℕ) → i < memberRoom → firstMove w i ≡ firstMove v i
   first-move-same i h = ap (λ (x : ℕ). x / 65536) (s .at (spansAt + i) (inl (omega arith)))
 
-  pub line-total-same : (i : ℕ) → i < 512 → lineTotal w i ≡ lineTotal v i
+  pub line-total-same : (i : ℕ) → i < memberRoom → lineTotal w i ≡ lineTotal v i
   line-total-same i h = s .at (lineTotalsAt + i) (inl (omega arith))
 
-  pub lines-held-same : (i : ℕ) → i < 512 → linesHeld w i ≡ linesHeld v i
+  pub lines-held-same : (i : ℕ) → i < memberRoom → linesHeld w i ≡ linesHeld v i
   lines-held-same i h =
       ap₂ (λ (f t : ℕ). numbersIn w (linesAt + f) (linesAt + f + t)) (first-move-same i h) (line-total-same i h)
       ∙ numbers-outside (linesAt + firstMove v i) (linesAt + firstMove v i + lineTotal v i) (inr (omega arith)) s
 
 module _ (v : List ℕ) (n round old : ℕ) (w : List ℕ) (count : ℕ) (Done : ℕ → Type 0) (Z : Splitting v n round old w count Done)
-    (k : ℕ) (few : n ≤ 512) (long : workEnd ≤ length v) where
+    (k : ℕ) (few : n ≤ memberRoom) (long : workEnd ≤ length v) where
   -- what member k needs
-  pub splitting-ready : k < n → ((j : ℕ) → j < n → firstMove v j + lineTotal v j ≤ 4096) → MemberReady w k old count
+  pub splitting-ready : k < n → ((j : ℕ) → j < n → firstMove v j + lineTotal v j ≤ moveRoom) → MemberReady w k old count
   splitting-ready l f = record {
     n = n;
     inside = l;
@@ -128,7 +135,7 @@ module _ (v : List ℕ) (n round old : ℕ) (w : List ℕ) (count : ℕ) (Done :
     own-old : classIn w k < old
     own-old = omega (arith, own, old-class k l)
 
-    count-few : count ≤ 512
+    count-few : count ≤ memberRoom
     count-few = omega (arith, classed-count (Z .classed))
 
     -- the chosen member of a class
@@ -144,20 +151,7 @@ module _ (v : List ℕ) (n round old : ℕ) (w : List ℕ) (count : ℕ) (Done :
 
     -- ---- it keeps its class
     keeps-next : linesHeld w k ≡ linesHeld w (chosenIn w (classIn w k)) → Splitting v n round old w count More
-    keeps-next h = record {
-      only = Z .only;
-      classed = Z .classed;
-      more = Z .more;
-      old-births = Z .old-births;
-      new-births = Z .new-births;
-      old-chosen = Z .old-chosen;
-      kept = Z .kept;
-      came = Z .came;
-      moved = λ i a b. up i (Z .moved i a b);
-      alike = λ i a d. alike i a d (tested (eqb i k));
-      apart-old = Z .apart-old;
-      apart-new = Z .apart-new;
-    }
+    keeps-next h = splitting-done Z (λ i a d. up i d) (λ i a d. alike i a d (tested (eqb i k)))
       where
         alike : (i : ℕ) → i < n → More i → Tested (eqb i k) → linesHeld v i ≡ linesHeld v (chosenIn w (classIn w i))
         alike i a d (passes e) =
@@ -177,10 +171,10 @@ module _ (v : List ℕ) (n round old : ℕ) (w : List ℕ) (count : ℕ) (Done :
       joined-other : (i : ℕ) → (i ≡ k → ⊥) → classIn joined i ≡ classIn w i
       joined-other i e = getD-set-other w (classesAt + k) (classesAt + i) p 0 (λ z. e (omega arith))
 
-      joined-birth : (c : ℕ) → c < 512 → getD joined (birthsAt + c) 0 ≡ getD w (birthsAt + c) 0
+      joined-birth : (c : ℕ) → c < memberRoom → getD joined (birthsAt + c) 0 ≡ getD w (birthsAt + c) 0
       joined-birth c h = getD-set-other w (classesAt + k) (birthsAt + c) p 0 (λ z. omega arith)
 
-      joined-from : (c : ℕ) → c < 512 → fromIn joined c ≡ fromIn w c
+      joined-from : (c : ℕ) → c < memberRoom → fromIn joined c ≡ fromIn w c
       joined-from c h = ap (λ (x : ℕ). x / 65536) (joined-birth c h)
 
       joined-chosen : (c : ℕ) → chosenIn joined c ≡ chosenIn w c
@@ -239,7 +233,7 @@ module _ (v : List ℕ) (n round old : ℕ) (w : List ℕ) (count : ℕ) (Done :
     module _ (small : round < 65536) (d : linesHeld w k ≡ linesHeld w (chosenIn w (classIn w k)) → ⊥)
         (f : (p : ℕ) → old ≤ p → p < count → PartFits w p (classIn w k) k → ⊥)
         (u : List ℕ) (eu : u ≡ set (set (set w (classesAt + k) count) (birthsAt + count) (classIn w k * 65536 + round)) (chosenAt + count) k) where
-      room : count < 512
+      room : count < memberRoom
       room = omega (arith, classed-spare (Z .classed) k l (λ z. d (ap (linesHeld w) (sym z))))
 
       is-chosen : (c : ℕ) → c < count → chosenIn w c ≡ k → chosenIn w (classIn w k) ≡ k
@@ -267,7 +261,7 @@ module _ (v : List ℕ) (n round old : ℕ) (w : List ℕ) (count : ℕ) (Done :
           ∙ getD-set-same a2 (chosenAt + count) k 0
           (omega (arith, length-set a1 (birthsAt + count) number, length-set w (classesAt + k) count, long-now, room))
 
-      begun-other : (i : ℕ) → i < 512 → (i ≡ k → ⊥) → classIn u i ≡ classIn w i
+      begun-other : (i : ℕ) → i < memberRoom → (i ≡ k → ⊥) → classIn u i ≡ classIn w i
       begun-other i h y =
           ap (λ (g : List ℕ). classIn g i) eu
           ∙ getD-set-other a2 (chosenAt + count) (classesAt + i) k 0 (λ z. omega arith)

@@ -14,12 +14,12 @@ ghost use Rattle.round_steps.specs.FirstRound.{StoreTold, FoundOne, Foun
 ghost use Rattle.round_steps.specs.ChosenMembers.{Rechosen};
 ghost use Rattle.round_steps.specs.SplitRounds.{Splitting};
 ghost use Rattle.round_steps.specs.AwakeMembers.{ListFits, Woken, NextListed};
-ghost use Rattle.work_layout.specs.WorkLayout.{workEnd};
+ghost use Rattle.work_layout.specs.WorkLayout.{workEnd, memberRoom, moveRoom};
 ghost use Rattle.work_layout.specs.ClassLayout.{classIn};
 
 // Whether the member at place i has another store than the one before it.
 fn new_store(work: &[u32], i: usize) -> bool
-    requires { ⌜ (i < 512) × (workEnd ≤ length (now work)) ⌝ }
+    requires { ⌜ (i < memberRoom) × (workEnd ≤ length (now work)) ⌝ }
     ensures { λ r. ⌜ StoreTold (now (work .entry)) i r ⌝ }
 {
     if i == 0 {
@@ -30,7 +30,7 @@ fn new_store(work: &[u32], i: usize) -> bool
 
 // The class of the member at place i in round 0, where `count` classes were found before it.
 fn found_class(work: &mut [u32], i: usize, count: usize) -> usize
-    requires { ⌜ (i < 512) × (count ≤ i) × (0 < i → 0 < count) × (workEnd ≤ length (now work)) ⌝ }
+    requires { ⌜ (i < memberRoom) × (count ≤ i) × (0 < i → 0 < count) × (workEnd ≤ length (now work)) ⌝ }
     ensures { λ r. ⌜ FoundOne (now (work .entry)) i count (now (work .exit)) r ⌝ }
 {
     if new_store(work, i) {
@@ -44,7 +44,7 @@ fn found_class(work: &mut [u32], i: usize, count: usize) -> usize
 
 // Round 0: a class for each store.
 pub fn found_classes(work: &mut [u32], n: usize) -> usize
-    requires { ⌜ (n ≤ 512) × (workEnd ≤ length (now work)) ⌝ }
+    requires { ⌜ (n ≤ memberRoom) × (workEnd ≤ length (now work)) ⌝ }
     ensures { λ r. ⌜ Founding (now (work .entry)) n (now (work .exit)) r ⌝ }
 {
     let mut count: usize = 0;
@@ -58,7 +58,7 @@ pub fn found_classes(work: &mut [u32], n: usize) -> usize
 
 // Whether a listed member is the chosen one of its class.
 fn chosen_listed(work: &[u32], list: &[u16; 512], k: usize) -> bool
-    requires { ⌜ (k ≤ 512) × (workEnd ≤ length (now work)) × ((j : ℕ) → j < k → (getD (now list) j 0 < 512) × (classIn (now work) (getD (now list) j 0) < 512)) ⌝ }
+    requires { ⌜ (k ≤ memberRoom) × (workEnd ≤ length (now work)) × ((j : ℕ) → j < k → (getD (now list) j 0 < memberRoom) × (classIn (now work) (getD (now list) j 0) < memberRoom)) ⌝ }
     ensures { λ r. ⌜ (r ≡ false → (j : ℕ) → j < k → chosenIn (now (work .entry)) (classIn (now (work .entry)) (getD (now (list .entry)) j 0))
         ≡ getD (now (list .entry)) j 0 → ⊥) ⌝ }
 {
@@ -76,7 +76,7 @@ fn chosen_listed(work: &[u32], list: &[u16; 512], k: usize) -> bool
 
 // The last member that is not awake chosen in each class that has one.
 pub fn choose_rest(work: &mut [u32], n: usize, awake: &[u64; 8])
-    requires { ⌜ (n ≤ 512) × (workEnd ≤ length (now work)) × ((i : ℕ) → i < n → classIn (now work) i < 512) ⌝ }
+    requires { ⌜ (n ≤ memberRoom) × (workEnd ≤ length (now work)) × ((i : ℕ) → i < n → classIn (now work) i < memberRoom) ⌝ }
     ensures { λ _. ⌜ Rechosen (now (work .entry)) n (now (awake .entry)) n (now (work .exit)) ⌝ }
 {
     let mut i: usize = 0;
@@ -98,8 +98,8 @@ pub fn split_listed(
     round: usize,
     old: usize,
 ) -> usize
-    requires { ⌜ (n ≤ 512) × (workEnd ≤ length (now work)) × (round < 65536) × Classed (now work) n old
-        × ((j : ℕ) → j < n → firstMove (now work) j + lineTotal (now work) j ≤ 4096) × ListFits n (now list) k ⌝ }
+    requires { ⌜ (n ≤ memberRoom) × (workEnd ≤ length (now work)) × (round < 65536) × Classed (now work) n old
+        × ((j : ℕ) → j < n → firstMove (now work) j + lineTotal (now work) j ≤ moveRoom) × ListFits n (now list) k ⌝ }
     ensures { λ r. ⌜ Splitting (now (work .entry)) n round old (now (work .exit)) r (InList (now (list .entry)) k) ⌝ }
 {
     let mut count = old;
@@ -114,7 +114,7 @@ pub fn split_listed(
 
 // Every place listed.
 pub fn list_all(list: &mut [u16], n: usize)
-    requires { ⌜ (n ≤ 512) × (n ≤ length (now list)) ⌝ }
+    requires { ⌜ (n ≤ memberRoom) × (n ≤ length (now list)) ⌝ }
     ensures { λ _. ⌜ ((j : ℕ) → j < n → getD (now (list .exit)) j 0 ≡ j) ⌝ }
 {
     let mut i: usize = 0;
@@ -134,8 +134,8 @@ fn wake(
     k: usize,
     awake: &mut [u64; 8],
 )
-    requires { ⌜ (k ≤ 512) × (workEnd ≤ length (now work)) × (width ≤ 8)
-        × ((j : ℕ) → j < k → (getD (now list) j 0 < 512) × (getD (now list) j 0 * width + width ≤ length (now sets))) ⌝ }
+    requires { ⌜ (k ≤ memberRoom) × (workEnd ≤ length (now work)) × (width ≤ 8)
+        × ((j : ℕ) → j < k → (getD (now list) j 0 < memberRoom) × (getD (now list) j 0 * width + width ≤ length (now sets))) ⌝ }
     ensures { λ _. ⌜ Woken (now (work .entry)) (now (sets .entry)) width old (now (list .entry)) k (now (awake .exit)) ⌝ }
 {
     let mut j: usize = 0;
@@ -159,7 +159,7 @@ pub fn list_next(
     list: &mut [u16; 512],
     k: usize,
 ) -> usize
-    requires { ⌜ (n ≤ 512) × (workEnd ≤ length (now work)) × (width ≤ 8) × (n ≤ 64 * width) × (n * width ≤ length (now sets))
+    requires { ⌜ (n ≤ memberRoom) × (workEnd ≤ length (now work)) × (width ≤ 8) × (n ≤ 64 * width) × (n * width ≤ length (now sets))
         × ListFits n (now list) k × ((count : ℕ) × Classed (now work) n count) ⌝ }
     ensures { λ r. ⌜ NextListed (now (work .entry)) (now (sets .entry)) width n old (now (list .entry)) k (now (work .exit)) (now (list .exit)) r ⌝ }
 {

@@ -2,18 +2,15 @@
 use sheet_types::RulesRead;
 use sheet_types::Section;
 use sheet_types::Sheet;
-ghost use mathlib.Core.Path.{_≡_};
-ghost use mathlib.Core.List.{[]};
 ghost use Prim.Native.Nat.{_≤_};
 ghost use lib.ListN.{length};
-ghost use Rattle.sheet_types.specs.HeldSheet.{rulesRead};
 ghost use Rattle.sheets.specs.SheetLimits.{maxFacts, maxRules};
-ghost use Rattle.sheet_reading.specs.Reading.{recordsFrom, ruleAt, rulesAt};
+ghost use Rattle.rule_reader.specs.RuleLoop.{RulesFrom, RulesFound};
 
 // n rules.
 fn rules_from(s: &[u8], facts: u16, n: u16, at: usize) -> RulesRead
     requires { ⌜ (at ≤ length (now s)) × (facts ≤ maxFacts) × (n ≤ maxRules) ⌝ }
-    ensures { λ r. ⌜ rulesRead r ≡ recordsFrom (λ read p. ruleAt facts (now (s .entry)) p) n [] at ⌝ }
+    ensures { λ r. ⌜ RulesFrom facts n (now (s .entry)) at r ⌝ }
 {
     let mut rules = [0u16; 64];
     let mut p = at;
@@ -39,10 +36,10 @@ fn rules_from(s: &[u8], facts: u16, n: u16, at: usize) -> RulesRead
     }
 }
 
-// The rules, after their count. Beside a refusal the arrays are free.
+// The rules, after their count. The array has those that were read, also beside a refusal, and zeros after them.
 pub fn rules_at(s: &[u8], facts: u16, at: usize) -> RulesRead
     requires { ⌜ (at ≤ length (now s)) × (facts ≤ maxFacts) ⌝ }
-    ensures { λ r. ⌜ rulesRead r ≡ rulesAt facts (now (s .entry)) at ⌝ }
+    ensures { λ r. ⌜ RulesFound facts (now (s .entry)) at r ⌝ }
 {
     let r = sheet_fields::count_at(s, at, 0, Sheet::MAX_RULES, refusals::MANY_RULES);
     let Section::Got(n, next) = r else {

@@ -13,15 +13,16 @@ use Rattle.collected_moves.specs.declared.Noted.{Noted}
 use Rattle.collected_moves.specs.declared.Noted.the-variants as noted
 use Rattle.collected_moves.specs.CollectedMoves.{Collecting, EnteredOn, NoRoomFor, membersOf}
 use Rattle.set_growth.specs.SetGrowth.{Growth, Sound}
-use Rattle.work_layout.specs.WorkLayout.{tableLength, spansAt, movesAt, membersAt}
+use Rattle.work_layout.specs.WorkLayout.{tableLength, spansAt, movesAt, membersAt, memberRoom, moveRoom}
+use Rattle.sheets.specs.SheetLimits.{maxThreads}
 
 -- there is room for so many members, moves and threads of a member
 abbrev pub CapsFit : Caps → Type 0
-CapsFit caps = (caps .members ≤ 512) × (caps .moves ≤ 4096) × (caps .threads ≤ 8)
+CapsFit caps = (caps .members ≤ memberRoom) × (caps .moves ≤ moveRoom) × (caps .threads ≤ maxThreads)
 
 -- no member is explored
 pub record Cleared (v w : List ℕ) : Type 0 where
-  pub none : (id : ℕ) → id < 512 → getD w (spansAt + id) 0 ≡ 0
+  pub none : (id : ℕ) → id < memberRoom → getD w (spansAt + id) 0 ≡ 0
   pub outside : SameOutside spansAt movesAt v w
 
 -- one seed was entered; it has no more threads than allowed

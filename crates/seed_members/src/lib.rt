@@ -11,6 +11,7 @@ ghost use Rattle.sheet_types.specs.HeldSheet.{configuration, noConfiguration, s
 ghost use Rattle.collected_moves.specs.CollectedMoves.{Collecting};
 ghost use Rattle.seed_members.specs.Seeds.{CapsFit, Cleared, SeedEntered, Seeded};
 ghost use Rattle.work_layout.specs.WorkLayout.{workEnd};
+ghost use Rattle.sheets.specs.SheetLimits.{maxStarts};
 
 // No member is explored.
 pub fn clear_spans(work: &mut [u32])
@@ -38,7 +39,7 @@ fn enter_seed(work: &mut [u32], seed: Configuration, caps: Caps, s: Running) -> 
 
 // The first k seeds entered as members.
 pub fn enter_seeds(work: &mut [u32], seeds: [Configuration; 16], k: usize, caps: Caps) -> Noted
-    requires { ⌜ (workEnd ≤ length (now work)) × CapsFit caps × (k ≤ 16) × ((i : ℕ) → i < k → getD seeds i noConfiguration .count ≤ 8) ⌝ }
+    requires { ⌜ (workEnd ≤ length (now work)) × CapsFit caps × (k ≤ maxStarts) × ((i : ℕ) → i < k → getD seeds i noConfiguration .count ≤ 8) ⌝ }
     ensures { λ r. ⌜ Seeded (now (work .entry)) caps (startsIn seeds k) (now (work .exit)) r ⌝ }
 {
     let mut run = Running {

@@ -15,13 +15,13 @@ use Rattle.kept_classes.specs.RoundLayout.{held-in, held-count, class-held}
 use Rattle.class_splits.specs.ClassedPlaces.{classed-count}
 use Rattle.class_rounds.specs.RoundAtHand.{nobody}
 use Rattle.class_rounds.specs.RoundsDone.{RoundsHeld}
-use Rattle.work_layout.specs.WorkLayout.{workEnd}
+use Rattle.work_layout.specs.WorkLayout.{workEnd, memberRoom}
 use Rattle.work_layout.specs.ClassLayout.{classIn, classesIn, bornIn, fromIn}
 
 -- Each class below `count`, two of them at hand, is a founder or came from a lower one.
 pub record Falls (w : List ℕ) (a b : ℕ) : Type 0 where
   pub count : ℕ
-  pub few : count ≤ 512
+  pub few : count ≤ memberRoom
   pub long : workEnd ≤ length w
   pub inside : (a < count) × (b < count)
   pub lower : (c : ℕ) → c < count → 0 < bornIn w c → fromIn w c < c
@@ -91,7 +91,7 @@ module _ {w : List ℕ} {last first second r a b : ℕ} (C : Climbing w last fir
 -- the same of the classes of n places
 pub record ClassesFall (w : List ℕ) (n : ℕ) : Type 0 where
   pub count : ℕ
-  pub few : count ≤ 512
+  pub few : count ≤ memberRoom
   pub long : workEnd ≤ length w
   pub known : (i : ℕ) → i < n → classIn w i < count
   pub lower : (c : ℕ) → c < count → 0 < bornIn w c → fromIn w c < c

@@ -13,7 +13,7 @@ use borrow.Author.Tests.{eqb-true, eqb-false}
 use Rattle.list_laws.specs.TestLaws.{Tested, tested, passes, fails}
 use Rattle.list_laws.specs.Frames.{SameOutside, outside-same, outside-set, outside-again}
 use Rattle.class_splits.specs.ClassedPlaces.{chosenIn, Classed, classed-count}
-use Rattle.work_layout.specs.WorkLayout.{workEnd, lineTotalsAt, classesAt, birthsAt, chosenAt}
+use Rattle.work_layout.specs.WorkLayout.{workEnd, lineTotalsAt, classesAt, birthsAt, chosenAt, memberRoom}
 use Rattle.work_layout.specs.ClassLayout.{classIn}
 
 -- the number kept for class c
@@ -78,15 +78,15 @@ first-or-later v n F i l = go (tested (eqb (chosenIn v (classIn v i)) i))
     go (passes e) = inl (eqb-true (chosenIn v (classIn v i)) i e)
     go (fails e) = inr (omega (arith, eqb-false (chosenIn v (classIn v i)) i e, F i l))
 
-module _ (v : List ℕ) (n classes : ℕ) (C : Classed v n classes) (F : FirstChosen v n) (small : n ≤ 512) (long : workEnd ≤ length v)
+module _ (v : List ℕ) (n classes : ℕ) (C : Classed v n classes) (F : FirstChosen v n) (small : n ≤ memberRoom) (long : workEnd ≤ length v)
     (i : ℕ) (l : i < n) (w : List ℕ) (count : ℕ) (N : Numbering v n i w count) where
   own : classIn w i ≡ classIn v i
   own = N .undone i (omega arith) l
 
-  own-small : classIn v i < 512
+  own-small : classIn v i < memberRoom
   own-small = omega (arith, C .known i l, classed-count C)
 
-  pub numbering-class : classIn w i < 512
+  pub numbering-class : classIn w i < memberRoom
   numbering-class = omega (arith, own, own-small)
 
   -- first members are left alone
@@ -98,7 +98,7 @@ module _ (v : List ℕ) (n classes : ℕ) (C : Classed v n classes) (F : FirstCh
 
   -- ---- u has the number k at place i; the kept numbers of classes met are as they were
   module _ (u : List ℕ) (k next : ℕ) (only-u : SameOutside lineTotalsAt birthsAt w u) (here : classIn u i ≡ k)
-      (others : (j : ℕ) → (j ≡ i → ⊥) → j < 512 → classIn u j ≡ classIn w j)
+      (others : (j : ℕ) → (j ≡ i → ⊥) → j < memberRoom → classIn u j ≡ classIn w j)
       (kept : (j : ℕ) → j < i → numberIn u (classIn v j) ≡ numberIn w (classIn v j))
       (mine : numberIn u (classIn v i) ≡ k) (fits : k < next) (le : count ≤ next) (nf : next ≤ i + 1)
       (apart-k : (j : ℕ) → j < i → classIn w j ≡ k → classIn v j ≡ classIn v i)
@@ -185,7 +185,7 @@ module _ (v : List ℕ) (n classes : ℕ) (C : Classed v n classes) (F : FirstCh
       here : classIn x i ≡ count
       here = getD-set-same a (classesAt + i) count 0 (omega (arith, la, long-now))
 
-      others : (j : ℕ) → (j ≡ i → ⊥) → j < 512 → classIn x j ≡ classIn w j
+      others : (j : ℕ) → (j ≡ i → ⊥) → j < memberRoom → classIn x j ≡ classIn w j
       others j d h =
           getD-set-other a (classesAt + i) (classesAt + j) count 0 (λ z. d (omega arith))
           ∙ getD-set-other w (lineTotalsAt + classIn w i) (classesAt + j) count 0 (λ z. omega (arith, numbering-class))
@@ -249,8 +249,8 @@ module _ (v : List ℕ) (n classes : ℕ) (C : Classed v n classes) (F : FirstCh
           here : classIn x i ≡ k
           here = getD-set-same w (classesAt + i) k 0 (omega (arith, long-now))
 
-          others : (j : ℕ) → (j ≡ i → ⊥) → j < 512 → classIn x j ≡ classIn w j
+          others : (j : ℕ) → (j ≡ i → ⊥) → j < memberRoom → classIn x j ≡ classIn w j
           others j z m = getD-set-other w (classesAt + i) (classesAt + j) k 0 (λ e. z (omega arith))
 
-          numbers : (c : ℕ) → c < 512 → numberIn x c ≡ numberIn w c
+          numbers : (c : ℕ) → c < memberRoom → numberIn x c ≡ numberIn w c
           numbers c m = getD-set-other w (classesAt + i) (lineTotalsAt + c) k 0 (λ e. omega arith)

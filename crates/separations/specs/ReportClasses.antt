@@ -26,14 +26,14 @@ use Rattle.class_rounds.specs.RoundAtHand.{nobody}
 use Rattle.class_rounds.specs.RoundsDone.{RoundsHeld, rounds-held-same}
 use Rattle.separations.specs.NumberedPlaces.{Numbering}
 use Rattle.separations.specs.FirstMembers.{FirstsFound, firsts-classed}
-use Rattle.work_layout.specs.WorkLayout.{workEnd, lineTotalsAt, linesAt}
+use Rattle.work_layout.specs.WorkLayout.{workEnd, lineTotalsAt, linesAt, memberRoom}
 use Rattle.work_layout.specs.ClassLayout.{classIn, classesIn, bornIn, fromIn}
 
 -- what numbering classes needs
 pub record NumberReady (w : List ℕ) (n : ℕ) : Type 0 where
   pub count : ℕ
   pub classed : Classed w n count
-  pub few : n ≤ 512
+  pub few : n ≤ memberRoom
   pub long : workEnd ≤ length w
 
 -- w is v with classes numbered by first member; only the kept numbers, the classes and the chosen members are changed

@@ -4,27 +4,15 @@ use work_layout::CHOSEN;
 use work_layout::CLASSES;
 use work_layout::LINE_TOTALS;
 ghost use mathlib.Core.Path.{_≡_};
-ghost use Prim.Native.Nat.{ℕ, _≤_, _<_, min, max};
+ghost use Prim.Native.Nat.{ℕ, _≤_, _<_};
 ghost use lib.ListN.{length};
 ghost use Rattle.kept_classes.specs.ClassBirths.{apart};
 ghost use Rattle.separations.specs.ApartClasses.{Falls};
 ghost use Rattle.separations.specs.NumberedPlaces.{NumberOne};
 ghost use Rattle.separations.specs.FirstMembers.{FirstsFound};
 ghost use Rattle.separations.specs.ReportClasses.{NumberReady, Renumbered};
-ghost use Rattle.work_layout.specs.WorkLayout.{workEnd};
+ghost use Rattle.work_layout.specs.WorkLayout.{workEnd, memberRoom};
 ghost use Rattle.work_layout.specs.ClassLayout.{classIn, bornIn, fromIn};
-
-fn lesser(a: u32, b: u32) -> u32
-    ensures { λ r. ⌜ r ≡ min a b ⌝ }
-{
-    if a < b { a } else { b }
-}
-
-fn greater(a: u32, b: u32) -> u32
-    ensures { λ r. ⌜ r ≡ max a b ⌝ }
-{
-    if a < b { b } else { a }
-}
 
 // The first round that has two classes apart; last where none has.
 fn apart(work: &[u32], last: usize, first: u32, second: u32) -> usize
@@ -35,8 +23,8 @@ fn apart(work: &[u32], last: usize, first: u32, second: u32) -> usize
     let mut b = second;
     let mut r = last;
     while a != b {
-        let high = greater(a, b);
-        let low = lesser(a, b);
+        let high = small_numbers::greater_u32(a, b);
+        let low = small_numbers::lesser_u32(a, b);
         let birth = work[BIRTHS + high as usize];
         let born = (birth % 65536) as usize;
         if born == 0 {
@@ -51,7 +39,7 @@ fn apart(work: &[u32], last: usize, first: u32, second: u32) -> usize
 
 // The first round that has the members at places i and j apart; last where none has.
 pub fn apart_at(work: &[u32], last: usize, i: usize, j: usize) -> usize
-    requires { ⌜ (i ≤ 512) × (j ≤ 512) × Falls (now work) (classIn (now work) i) (classIn (now work) j) ⌝ }
+    requires { ⌜ (i ≤ memberRoom) × (j ≤ memberRoom) × Falls (now work) (classIn (now work) i) (classIn (now work) j) ⌝ }
     ensures { λ r. ⌜ r ≡ apart (fromIn (now (work .entry))) (bornIn (now (work .entry))) last
         (classIn (now (work .entry)) i) (classIn (now (work .entry)) j) ⌝ }
 {
@@ -65,7 +53,7 @@ pub fn apart_at(work: &[u32], last: usize, i: usize, j: usize) -> usize
 
 // The number by first member of the class of the member at place i, where `count` classes were met before it.
 fn number_class(work: &mut [u32], i: usize, count: usize) -> usize
-    requires { ⌜ (i < 512) × (count < 512) × (classIn (now work) i < 512) × (workEnd ≤ length (now work)) ⌝ }
+    requires { ⌜ (i < memberRoom) × (count < memberRoom) × (classIn (now work) i < memberRoom) × (workEnd ≤ length (now work)) ⌝ }
     ensures { λ r. ⌜ NumberOne (now (work .entry)) i count (now (work .exit)) r ⌝ }
 {
     let c = work_layout::class_at(work, i) as usize;
@@ -80,7 +68,7 @@ fn number_class(work: &mut [u32], i: usize, count: usize) -> usize
 
 // The first member of each class chosen.
 fn choose_first(work: &mut [u32], n: usize)
-    requires { ⌜ (n ≤ 512) × (workEnd ≤ length (now work)) × ((i : ℕ) → i < n → classIn (now work) i < 512) ⌝ }
+    requires { ⌜ (n ≤ memberRoom) × (workEnd ≤ length (now work)) × ((i : ℕ) → i < n → classIn (now work) i < memberRoom) ⌝ }
     ensures { λ _. ⌜ FirstsFound (now (work .entry)) n 0 (now (work .exit)) ⌝ }
 {
     let mut i = n;

@@ -3,6 +3,7 @@ ghost use mathlib.Core.Path.{_≡_};
 ghost use Prim.Native.Nat.{_+_, _*_, _≤_, _<_};
 ghost use lib.ListN.{length};
 ghost use Rattle.stores.specs.Stores.{fire, pass, closure};
+ghost use Rattle.sheets.specs.SheetLimits.{maxRules};
 ghost use Rattle.set_closure.specs.RuleTable.{ruleIn, rulesIn};
 
 // The set with one rule applied.
@@ -18,7 +19,7 @@ pub fn fire(premise: u16, conclusion: u16, set: u16) -> u16
 
 // The set after each of the first n rules once, in their order.
 fn pass_once(rules: &[u16; 64], n: usize, set: u16) -> u16
-    requires { ⌜ n ≤ 32 ⌝ }
+    requires { ⌜ n ≤ maxRules ⌝ }
     ensures { λ r. ⌜ r ≡ pass (rulesIn (now (rules .entry)) n) set ⌝ }
 {
     let mut s = set;
@@ -32,7 +33,7 @@ fn pass_once(rules: &[u16; 64], n: usize, set: u16) -> u16
 
 // The closure of the set under the first n rules: passes until one changes nothing.
 pub fn close(rules: &[u16; 64], n: usize, set: u16) -> u16
-    requires { ⌜ n ≤ 32 ⌝ }
+    requires { ⌜ n ≤ maxRules ⌝ }
     ensures { λ r. ⌜ r ≡ closure (rulesIn (now (rules .entry)) n) set ⌝ }
 {
     let mut s = set;

@@ -15,7 +15,7 @@ use Rattle.member_table.specs.TableInPart.{part-outside, kept-outside}
 use Rattle.member_table.specs.MemberLaws.{ids-apart}
 use Rattle.collected_moves.specs.CollectedMoves.{memberPart}
 use Rattle.set_order.specs.SetOrderSteps.{IdsPlaced, placedNumber, TargetFits, TargetsPlaced, CopiedAside, AllAside, SpansKept, Copied}
-use Rattle.work_layout.specs.WorkLayout.{workEnd, spansAt, membersAt, placesAt, spareMembersAt, spareSpansAt}
+use Rattle.work_layout.specs.WorkLayout.{workEnd, spansAt, membersAt, placesAt, spareMembersAt, spareSpansAt, memberRoom}
 
 -- ---- numbers copied
 pub copied-none : (v : List ℕ) (from to : ℕ) → Copied v from to 0 v
@@ -87,7 +87,7 @@ module _ {v w : List ℕ} {from i : ℕ} (t : TargetsPlaced v from i w) (h : fro
 
 -- ---- the places of ids
 pub ids-none : (v : List ℕ) → IdsPlaced v 0 v
-ids-none v = record { at = λ j h. absurd (omega arith); outside = outside-same placesAt (placesAt + 512) v }
+ids-none v = record { at = λ j h. absurd (omega arith); outside = outside-same placesAt (placesAt + memberRoom) v }
 
 module _ {v w : List ℕ} {i : ℕ} (n : ℕ) (p : IdsPlaced v i w) (k : Kept (memberPart v) n) (h : i < n) where
   pub ids-kept : Kept (memberPart w) n
@@ -98,17 +98,17 @@ module _ {v w : List ℕ} {i : ℕ} (n : ℕ) (p : IdsPlaced v i w) (k : Kept (m
 
   pub ids-more : workEnd ≤ length v → (id : ℕ) → id ≡ idIn (memberPart w) i → IdsPlaced v (i + 1) (set w (placesAt + id) i)
   ids-more l id e =
-      let r : n ≤ 512 = k .room in
+      let r : n ≤ memberRoom = k .room in
       let b : idIn (memberPart v) i < n = k .ids i h in
       let q : id ≡ idIn (memberPart v) i = e ∙ ids-same in
       record {
         at = λ j m. go r b q j m (ltb j i) refl;
         outside =
             outside-again (p .outside)
-            (outside-set placesAt (placesAt + 512) w (placesAt + id) i (omega arith) (omega (arith, k .room, k .ids i h, e ∙ ids-same)));
+            (outside-set placesAt (placesAt + memberRoom) w (placesAt + id) i (omega arith) (omega (arith, k .room, k .ids i h, e ∙ ids-same)));
       }
     where
-      go : n ≤ 512 → idIn (memberPart v) i < n → id ≡ idIn (memberPart v) i → (j : ℕ) → j < i + 1 → (b : Bool) → ltb j i ≡ b
+      go : n ≤ memberRoom → idIn (memberPart v) i < n → id ≡ idIn (memberPart v) i → (j : ℕ) → j < i + 1 → (b : Bool) → ltb j i ≡ b
           → getD (set w (placesAt + id) i) (placesAt + idIn (memberPart v) j) 0 ≡ j
       go r b q j m true z =
           let s : j < i = ltb-true j i z in
@@ -129,7 +129,7 @@ module _ {v w : List ℕ} {i : ℕ} (n : ℕ) (p : IdsPlaced v i w) (k : Kept (m
 pub aside-stored : {v u : List ℕ} {n j id : ℕ} → SpansKept v n → j < n → id ≡ idIn (memberPart v) j
     → Copied v (membersAt + 3 * id) (spareMembersAt + 3 * j) 3 u → CopiedAside v j (set u (spareSpansAt + j) (getD v (spansAt + id) 0 - 1))
 aside-stored {v} {u} {n} {j} {id} k h e c =
-    let r : n ≤ 512 = k .kept .room in
+    let r : n ≤ memberRoom = k .kept .room in
     let x : ℕ = getD v (spansAt + id) 0 - 1 in
     let z : spareMembersAt + 3 * j + 0 ≡ spareMembersAt + 3 * j = omega arith in
     let y : membersAt + 3 * id + 0 ≡ membersAt + 3 * id = omega arith in
@@ -168,12 +168,12 @@ module _ {v w : List ℕ} {i : ℕ} (n : ℕ) (a : AllAside v i w) (k : SpansKep
         long = omega (arith, a .outside .long, k .long);
         kept = kept-outside (a .outside) membersAt n (inl (omega arith)) (k .kept);
         explored = λ id l.
-            let r : n ≤ 512 = k .kept .room in
+            let r : n ≤ memberRoom = k .kept .room in
             omega (arith, k .explored id l, a .outside .at (spansAt + id) (inl (omega arith)));
       }
 
   module _ {u : List ℕ} (c : CopiedAside w i u) where
-    few : n ≤ 512
+    few : n ≤ memberRoom
     few = k .kept .room
 
     same-id : idIn (memberPart w) i ≡ idIn (memberPart v) i
@@ -203,7 +203,7 @@ module _ {v w : List ℕ} {i : ℕ} (n : ℕ) (a : AllAside v i w) (k : SpansKep
 
     pub aside-more : AllAside v (i + 1) u
     aside-more =
-        let r : n ≤ 512 = few in
+        let r : n ≤ memberRoom = few in
         let b : idIn (memberPart w) i < n = low-id in
         record {
           first =

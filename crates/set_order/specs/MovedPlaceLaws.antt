@@ -20,7 +20,7 @@ use Rattle.number_lists.specs.Entered.{Sorted}
 use Rattle.set_order.specs.OrderedSet.{spanFirst, spanTotal, spanNumbers}
 use Rattle.set_order.specs.SetOrderSteps.{placedNumber, placedNumbers, partBy, TargetFits, TargetsPlaced, NumbersReady, MovesReady, MovesArranged, SpansApart, AllReady, AllArranged}
 use Rattle.set_order.specs.CopyLaws.{placed-outside, fits-outside}
-use Rattle.work_layout.specs.WorkLayout.{workEnd, spansAt, movesAt, membersAt, placesAt}
+use Rattle.work_layout.specs.WorkLayout.{workEnd, spansAt, movesAt, membersAt, placesAt, moveRoom}
 
 -- ---- images
 -- a map that tells the elements of a list apart keeps them distinct
@@ -110,7 +110,7 @@ module _ {v w : List ℕ} {n i : ℕ} (a : AllArranged v n i w) (r : AllReady v 
       let m = r .ready i h in
       record {
         explored = subst (λ (s : ℕ). 0 < s) (sym same-span) (m .explored);
-        within = subst (λ (s : ℕ). (s - 1) / 65536 + (s - 1) % 65536 ≤ 4096) (sym same-span) (m .within);
+        within = subst (λ (s : ℕ). (s - 1) / 65536 + (s - 1) % 65536 ≤ moveRoom) (sym same-span) (m .within);
         numbers =
             subst (λ (ys : List ℕ). NumbersReady w ys) (sym same-numbers)
             (numbers-ready (a .outside) (omega arith) (spanNumbers v i) (m .numbers));

@@ -12,7 +12,7 @@ use Rattle.packing.specs.Packing.{Packed}
 use Rattle.member_table.specs.MemberTable.{idIn, placedIn, Kept}
 use Rattle.collected_moves.specs.CollectedMoves.{memberPart, moveIn}
 use Rattle.work_layout.specs.SetLayout.{memberAt, firstMove, moveTotal, moveNumbersAt, movesHeldAt}
-use Rattle.work_layout.specs.WorkLayout.{workEnd, spansAt, movesAt, membersAt}
+use Rattle.work_layout.specs.WorkLayout.{workEnd, spansAt, movesAt, membersAt, moveRoom}
 
 -- where the moves of a member that was explored begin, and how many there are; one more than both together is stored
 abbrev pub spanFirst : List ℕ → ℕ → ℕ
@@ -38,7 +38,7 @@ pub record SpanFits (w : List ℕ) (n m id : ℕ) : Type 0 where
 -- n members by discovery, all explored, with m moves together
 pub record Discovered (w : List ℕ) (n m : ℕ) : Type 0 where
   pub long : workEnd ≤ length w
-  pub few : m ≤ 4096
+  pub few : m ≤ moveRoom
   pub kept : Kept (memberPart w) n
   pub spans : (id : ℕ) → id < n → SpanFits w n m id
   pub apart : (i j : ℕ) → i < n → j < n → (i ≡ j → ⊥)

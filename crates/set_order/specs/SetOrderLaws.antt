@@ -22,7 +22,7 @@ use Rattle.collected_moves.specs.CollectedMoves.{memberPart, moveIn}
 use Rattle.work_layout.specs.SetLayout.{memberAt, firstMove, moveTotal, moveNumbersAt, moveFrom, movesHeldAt}
 use Rattle.set_order.specs.OrderedSet.{spanFirst, spanTotal, spanNumbers, spanMoves, Discovered, Arranged}
 use Rattle.set_order.specs.SetOrderSteps.{IdsPlaced, placedNumber, NumbersReady, AllReady, AllArranged, SpansKept, AllAside, Copied}
-use Rattle.work_layout.specs.WorkLayout.{workEnd, tableLength, spansAt, movesAt, membersAt, placesAt, spareMembersAt, spareSpansAt}
+use Rattle.work_layout.specs.WorkLayout.{workEnd, tableLength, spansAt, movesAt, membersAt, placesAt, spareMembersAt, spareSpansAt, memberRoom, moveRoom}
 
 -- two spans, as they are stored, stand apart
 abbrev Apart : ℕ → ℕ → Type 0
@@ -34,7 +34,7 @@ abbrev told : List ℕ → ℕ → List ℕ
 told w s = numbersIn w (movesAt + s / 65536) (movesAt + s / 65536 + s % 65536)
 
 module _ {v : List ℕ} {n m : ℕ} (d : Discovered v n m) {w₁ : List ℕ} (p : IdsPlaced v n w₁) where
-  room : n ≤ 512
+  room : n ≤ memberRoom
   room = d .kept .room
 
   -- the place that stands by an id
@@ -77,7 +77,7 @@ module _ {v : List ℕ} {n m : ℕ} (d : Discovered v n m) {w₁ : List ℕ} (p 
         ready = λ id h. record {
           explored = omega (arith, same-span id h, d .spans id h .explored);
           within =
-              subst (λ (s : ℕ). (s - 1) / 65536 + (s - 1) % 65536 ≤ 4096) (sym (same-span id h)) (omega (arith, d .spans id h .within, d .few));
+              subst (λ (s : ℕ). (s - 1) / 65536 + (s - 1) % 65536 ≤ moveRoom) (sym (same-span id h)) (omega (arith, d .spans id h .within, d .few));
           numbers = subst (λ (ys : List ℕ). NumbersReady w₁ ys) (sym (same-numbers id h)) (numbers-fit id h);
         };
         apart = λ i j h l e.

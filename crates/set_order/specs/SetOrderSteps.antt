@@ -10,13 +10,13 @@ use Rattle.number_lists.specs.NumberLists.{numberOrder, numbersIn}
 use Rattle.member_table.specs.MemberTable.{idIn, Kept}
 use Rattle.collected_moves.specs.CollectedMoves.{memberPart}
 use Rattle.set_order.specs.OrderedSet.{spanFirst, spanTotal, spanNumbers, Discovered, Arranged}
-use Rattle.work_layout.specs.WorkLayout.{workEnd, spansAt, movesAt, membersAt, placesAt, spareMembersAt, spareSpansAt}
+use Rattle.work_layout.specs.WorkLayout.{workEnd, spansAt, movesAt, membersAt, placesAt, spareMembersAt, spareSpansAt, memberRoom, moveRoom}
 
 -- ---- the places of ids
 -- the place of each of the first i members of the order stands by its id; nothing else is changed
 pub record IdsPlaced (v : List ℕ) (i : ℕ) (w : List ℕ) : Type 0 where
   pub at : (j : ℕ) → j < i → getD w (placesAt + idIn (memberPart v) j) 0 ≡ j
-  pub outside : SameOutside placesAt (placesAt + 512) v w
+  pub outside : SameOutside placesAt (placesAt + memberRoom) v w
 
 -- ---- the moves of a member
 -- the number of a move with its target's place for its id
@@ -25,7 +25,7 @@ placedNumber w y = y / 65536 * 65536 + getD w (placesAt + y % 65536) 0
 
 -- the number has an id that has a place
 pub record TargetFits (w : List ℕ) (y : ℕ) : Type 0 where
-  pub id : y % 65536 < 512
+  pub id : y % 65536 < memberRoom
   pub place : getD w (placesAt + y % 65536) 0 < 65536
 
 -- the numbers before place i of a part have places for ids
@@ -42,7 +42,7 @@ pub record NumbersReady (w : List ℕ) (ys : List ℕ) : Type 0 where
 -- a member's span, and its moves
 pub record MovesReady (w : List ℕ) (id : ℕ) : Type 0 where
   pub explored : 0 < getD w (spansAt + id) 0
-  pub within : spanFirst w id + spanTotal w id ≤ 4096
+  pub within : spanFirst w id + spanTotal w id ≤ moveRoom
   pub numbers : NumbersReady w (spanNumbers w id)
 
 -- the part of a member's moves, by the spans of v
@@ -65,7 +65,7 @@ SpansApart w i j = (spanFirst w i + spanTotal w i ≤ spanFirst w j) ⊎ (spanFi
 -- n members whose moves can be arranged one after another
 pub record AllReady (w : List ℕ) (n : ℕ) : Type 0 where
   pub long : workEnd ≤ length w
-  pub room : n ≤ 512
+  pub room : n ≤ memberRoom
   pub ready : (id : ℕ) → id < n → MovesReady w id
   pub apart : (i j : ℕ) → i < n → j < n → (i ≡ j → ⊥) → SpansApart w i j
 

@@ -12,7 +12,7 @@ ghost use lib.ListN.{length, getD};
 ghost use Rattle.member_table.specs.MemberTable.{Kept};
 ghost use Rattle.collected_moves.specs.CollectedMoves.{memberPart};
 ghost use Rattle.set_order.specs.SetOrderSteps.{IdsPlaced, placedNumber, TargetFits, TargetsPlaced, MovesReady, MovesArranged, AllReady, AllArranged, SpansKept, CopiedAside, AllAside, Copied, DiscoveredSome, ArrangedAll};
-ghost use Rattle.work_layout.specs.WorkLayout.{workEnd, placesAt};
+ghost use Rattle.work_layout.specs.WorkLayout.{workEnd, placesAt, memberRoom};
 
 // For each member, by its id, its place in the order.
 fn place_ids(work: &mut [u32], n: usize)
@@ -51,7 +51,7 @@ fn place_targets(work: &mut [u32], from: usize, end: usize)
 
 // The moves of a member with places for ids, in ascending order.
 fn arrange_moves(work: &mut [u32], id: usize)
-    requires { ⌜ (workEnd ≤ length (now work)) × (id < 512) × MovesReady (now work) id ⌝ }
+    requires { ⌜ (workEnd ≤ length (now work)) × (id < memberRoom) × MovesReady (now work) id ⌝ }
     ensures { λ _. ⌜ MovesArranged (now (work .entry)) id (now (work .exit)) ⌝ }
 {
     let span = work[SPANS + id] - 1;

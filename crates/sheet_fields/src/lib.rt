@@ -17,13 +17,6 @@ const LAST_PRINTABLE: u8 = 126;
 
 const MAX_KIND: u16 = 4;
 
-// A byte as a wider number.
-fn wide(x: u8) -> u16
-    ensures { λ r. ⌜ (r ≡ x) × (r < 256) ⌝ }
-{
-    x as u16
-}
-
 // A byte.
 fn byte_at(s: &[u8], at: usize) -> Section
     requires { ⌜ at ≤ length (now s) ⌝ }
@@ -32,7 +25,7 @@ fn byte_at(s: &[u8], at: usize) -> Section
     if s.len() - at < 1 {
         return Section::Refused(refusals::CUT_OFF, s.len());
     }
-    Section::Got(wide(s[at]), at + 1)
+    Section::Got(small_numbers::wide_u16(s[at]), at + 1)
 }
 
 // Two bytes, the low one first.
@@ -43,7 +36,10 @@ fn word_at(s: &[u8], at: usize) -> Section
     if s.len() - at < 2 {
         return Section::Refused(refusals::CUT_OFF, s.len());
     }
-    Section::Got(wide(s[at]) + 256 * wide(s[at + 1]), at + 2)
+    Section::Got(
+        small_numbers::wide_u16(s[at]) + 256 * small_numbers::wide_u16(s[at + 1]),
+        at + 2,
+    )
 }
 
 // A count from low to high, refused with its section's number.

@@ -1,6 +1,7 @@
 pub mod Ranks
 pub mod NodeFields
 pub mod RecordLaws
+pub mod StoredRecords
 pub mod OpeningLaws
 pub mod Gets
 pub mod FieldLaws

@@ -12,12 +12,13 @@ use Rattle.sheet_reading.specs.Reading.{Reading, got, refused, readSheet, readC
 use Rattle.sheet_reading.specs.SheetRead.{sheet-reads, choice-reads}
 use Rattle.sheet_laws.specs.ReadingLaws.{choice-no-left, choice-no-right}
 use Rattle.sheet_types.specs.HeldSheet.{nodesIn, configuration, noConfiguration, sheetOf, sheetRead}
+use Rattle.sheet_types.specs.NodeTable.{nodesOf, tableEnd}
 use Rattle.sheet_types.specs.SectionLaws.{refused-with, refused-never, with-got}
 use Rattle.sheet_types.specs.declared.Section.the-variants.{Got, Refused}
 use Rattle.sheet_types.specs.declared.Section.{Section}
 use Rattle.sheet_types.specs.declared.Sheet.{Sheet}
 use Rattle.sheet_types.specs.declared.SheetRead.{SheetRead}
-use Rattle.node_opening.specs.OpenedNodes.{OpenedTable}
+use Rattle.movable_nodes.specs.NodeTables.{NodeTable}
 use Rattle.start_reader.specs.StartsFound.{FewThreads}
 
 -- no facts, rules, nodes or starts
@@ -29,8 +30,7 @@ noSheet =
       «node_count» = 0;
       «start_count» = 0;
       rules = replicate 64 0;
-      nodes = record { kinds = replicate 64 0; firsts = replicate 64 0; seconds = replicate 64 0 };
-      opened = record { counts = replicate 64 0; threads = replicate 512 0 };
+      table = replicate tableEnd 0;
       starts = replicate 16 noConfiguration;
     }
 
@@ -38,11 +38,11 @@ noSheet =
 abbrev pub unread : Section → SheetRead
 unread a = record { answer = a; sheet = noSheet }
 
--- What is held where a sheet with n starts was read: the table has what each node opens to, and no start has more threads than
--- it has room for.
+-- What is held where a sheet with n starts was read: the table has what each node opens to and which nodes can move, and no start
+-- has more threads than it has room for.
 pub record SheetHeld (n : ℕ) (sheet : Sheet) : Type 0 where
   pub starts : n ≡ sheet .«start_count»
-  pub opened : OpenedTable (nodesIn (sheet .nodes) (sheet .«node_count»)) (sheet .opened)
+  pub table : NodeTable (nodesIn (nodesOf (sheet .table)) (sheet .«node_count»)) (sheet .table)
   pub threads : FewThreads (sheet .starts) (sheet .«start_count»)
 
 -- The answer is this reading; beside a refusal there is no sheet.

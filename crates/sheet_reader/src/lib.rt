@@ -1,12 +1,11 @@
 // The whole sheet, and the choice of two starts. For every byte slice: the sheet, or the number and place of the one refusal.
 use sheet_types::Configuration;
-use sheet_types::Nodes;
 use sheet_types::NodesRead;
-use sheet_types::Opened;
 use sheet_types::RulesRead;
 use sheet_types::Section;
 use sheet_types::Sheet;
 use sheet_types::SheetRead;
+use sheet_types::TABLE_END;
 ghost use mathlib.Core.Path.{_≡_};
 ghost use Rattle.sheet_reading.specs.Reading.{readSheet, readChoice};
 ghost use Rattle.sheet_reader.specs.SheetFound.{SheetFound, unread};
@@ -23,15 +22,7 @@ fn no_sheet(answer: Section) -> SheetRead
             node_count: 0,
             start_count: 0,
             rules: [0; 64],
-            nodes: Nodes {
-                kinds: [0; 64],
-                firsts: [0; 64],
-                seconds: [0; 64],
-            },
-            opened: Opened {
-                counts: [0; 64],
-                threads: [0; 512],
-            },
+            table: [0; TABLE_END],
             starts: [Configuration {
                 store: 0,
                 count: 0,
@@ -60,10 +51,8 @@ pub fn read_sheet(s: &[u8]) -> SheetRead
     let Section::Got(node_count, t) = h else {
         return no_sheet(h);
     };
-    let opened = y.opened;
-    let counts = opened.counts;
-    let table = opened.threads;
-    let z = start_reader::starts_at(s, facts, &rules, rule_count, &counts, &table, node_count, t);
+    let table = y.table;
+    let z = start_reader::starts_at(s, facts, &rules, rule_count, &table, node_count, t);
     let k = z.answer;
     let Section::Got(start_count, end) = k else {
         return no_sheet(k);
@@ -71,7 +60,6 @@ pub fn read_sheet(s: &[u8]) -> SheetRead
     if end < s.len() {
         return no_sheet(Section::Refused(refusals::BYTES_LEFT, end));
     }
-    let nodes = y.nodes;
     let starts = z.starts;
     SheetRead {
         answer: Section::Got(start_count, end),
@@ -81,8 +69,7 @@ pub fn read_sheet(s: &[u8]) -> SheetRead
             node_count,
             start_count,
             rules,
-            nodes,
-            opened,
+            table,
             starts,
         },
     }

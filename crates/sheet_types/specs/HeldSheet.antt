@@ -14,8 +14,6 @@ use Rattle.set_closure.specs.RuleTable.{rulesIn}
 use Rattle.sheet_types.specs.declared.Section.{Section}
 use Rattle.sheet_types.specs.declared.Section.the-variants.{Got, Refused}
 use Rattle.sheet_types.specs.declared.Configuration.{Configuration}
-use Rattle.sheet_types.specs.declared.Nodes.{Nodes}
-use Rattle.sheet_types.specs.declared.Opened.{Opened}
 use Rattle.sheet_types.specs.declared.Sheet.{Sheet}
 use Rattle.sheet_types.specs.declared.RulesRead.{RulesRead}
 use Rattle.sheet_types.specs.declared.NodeRead.{NodeRead}
@@ -24,6 +22,7 @@ use Rattle.sheet_types.specs.declared.ThreadsRead.{ThreadsRead}
 use Rattle.sheet_types.specs.declared.StartRead.{StartRead}
 use Rattle.sheet_types.specs.declared.StartsRead.{StartsRead}
 use Rattle.sheet_types.specs.declared.SheetRead.{SheetRead}
+use Rattle.sheet_types.specs.NodeTable.{Nodes, Opened, nodesOf}
 
 -- the number and the values of document 01 for each case of the answer
 abbrev pub answer : Section → Reading ℕ
@@ -73,7 +72,7 @@ sheetOf s =
     record {
       facts = s .facts;
       rules = rulesIn (s .rules) (s .«rule_count»);
-      nodes = nodesIn (s .nodes) (s .«node_count»);
+      nodes = nodesIn (nodesOf (s .table)) (s .«node_count»);
       starts = startsIn (s .starts) (s .«start_count»);
     }
 
@@ -86,7 +85,7 @@ abbrev pub nodeRead : NodeRead → Reading Node
 nodeRead r = answerWith (λ kind. nodeHeld kind (r .first) (r .second)) (r .answer)
 
 abbrev pub nodesRead : NodesRead → Reading (List Node)
-nodesRead r = answerWith (nodesIn (r .nodes)) (r .answer)
+nodesRead r = answerWith (nodesIn (nodesOf (r .table))) (r .answer)
 
 abbrev pub threadsRead : ThreadsRead → Reading (List ℕ)
 threadsRead r = answerWith (λ n. take n (r .threads)) (r .answer)

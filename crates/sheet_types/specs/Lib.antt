@@ -1,3 +1,5 @@
+pub mod NodeTable
+pub mod NodeTableLaws
 pub mod HeldSheet
 pub mod SectionLaws
 pub mod AddedStore

@@ -2,10 +2,12 @@
 use packing::Numbers;
 ghost use mathlib.Core.Path.{_≡_};
 ghost use Prim.Native.Nat.{_≤_, _<_};
-ghost use lib.ListN.{length};
+ghost use lib.ListN.{length, getD};
 ghost use lib.Bits.{bitOr};
+ghost use Rattle.sheets.specs.SheetLimits.{maxNodes};
 ghost use Rattle.packing.specs.Packing.{standsFor, PackedIn};
 ghost use Rattle.sheet_types.specs.HeldSheet.{configuration};
+ghost use Rattle.sheet_types.specs.NodeTable.{nodesOf, openedOf, movablesOf};
 ghost use Rattle.sheet_types.specs.AddedStore.{AddedTo};
 
 // What reading a field or a section gives: a value and the place after it, or the refusal's number and place.
@@ -56,17 +58,63 @@ pub fn configuration_of(x: Numbers) -> Configuration
     }
 }
 
-// Nodes by number: kind byte, first field (a set is closed) and second field.
-pub struct Nodes {
-    pub kinds: [u8; 64],
-    pub firsts: [u16; 64],
-    pub seconds: [u16; 64],
+// The table of nodes. Its columns have a byte for each node: kind, first field in two bytes (a set is closed), second field, how many
+// threads it opens to, and 1 where it can move, else 0. Then eight bytes for each node, the threads that it opens to.
+pub const KINDS: usize = 0;
+
+pub const FIRST_LOWS: usize = 64;
+
+pub const FIRST_HIGHS: usize = 128;
+
+pub const SECONDS: usize = 192;
+
+pub const COUNTS: usize = 256;
+
+pub const MOVABLES: usize = 320;
+
+pub const THREADS: usize = 384;
+
+pub const TABLE_END: usize = 896;
+
+// The kind of node k.
+pub fn kind_in(table: &[u8; TABLE_END], k: usize) -> u8
+    requires { ⌜ k < maxNodes ⌝ }
+    ensures { λ r. ⌜ r ≡ getD (nodesOf (now (table .entry)) .kinds) k 0 ⌝ }
+{
+    table[KINDS + k]
 }
 
-// The threads that node k opens to: counts[k] of them, from 8 k on.
-pub struct Opened {
-    pub counts: [u8; 64],
-    pub threads: [u8; 512],
+// The first field of node k.
+pub fn first_in(table: &[u8; TABLE_END], k: usize) -> u16
+    requires { ⌜ k < maxNodes ⌝ }
+    ensures { λ r. ⌜ r ≡ getD (nodesOf (now (table .entry)) .firsts) k 0 ⌝ }
+{
+    small_numbers::wide_u16(table[FIRST_LOWS + k])
+        + 256 * small_numbers::wide_u16(table[FIRST_HIGHS + k])
+}
+
+// The second field of node k.
+pub fn second_in(table: &[u8; TABLE_END], k: usize) -> usize
+    requires { ⌜ k < maxNodes ⌝ }
+    ensures { λ r. ⌜ (r ≡ getD (nodesOf (now (table .entry)) .seconds) k 0) × (r < 256) ⌝ }
+{
+    small_numbers::wide(table[SECONDS + k])
+}
+
+// How many threads node k opens to.
+pub fn count_in(table: &[u8; TABLE_END], k: usize) -> usize
+    requires { ⌜ k < maxNodes ⌝ }
+    ensures { λ r. ⌜ (r ≡ getD (openedOf (now (table .entry)) .counts) k 0) × (r < 256) ⌝ }
+{
+    small_numbers::wide(table[COUNTS + k])
+}
+
+// 1 where node k can move, else 0.
+pub fn movable_in(table: &[u8; TABLE_END], k: usize) -> u8
+    requires { ⌜ k < maxNodes ⌝ }
+    ensures { λ r. ⌜ r ≡ getD (movablesOf (now (table .entry))) k 0 ⌝ }
+{
+    table[MOVABLES + k]
 }
 
 // Rule i has its premise at 2 i and its conclusion at 2 i + 1.
@@ -76,8 +124,7 @@ pub struct Sheet {
     pub node_count: u16,
     pub start_count: u16,
     pub rules: [u16; 64],
-    pub nodes: Nodes,
-    pub opened: Opened,
+    pub table: [u8; TABLE_END],
     pub starts: [Configuration; 16],
 }
 
@@ -111,8 +158,7 @@ pub struct NodeRead {
 
 pub struct NodesRead {
     pub answer: Section,
-    pub nodes: Nodes,
-    pub opened: Opened,
+    pub table: [u8; TABLE_END],
 }
 
 pub struct ThreadsRead {

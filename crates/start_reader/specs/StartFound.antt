@@ -14,9 +14,9 @@ use Rattle.sheets.specs.Sheet.{Node, opened, openedAll}
 use Rattle.sheet_reading.specs.Reading.{got, refused, setAt, countAt, threadsFrom, startAt}
 use Rattle.sheet_laws.specs.SectionLaws.{start-no-threads, start-many, start-few}
 use Rattle.sheet_types.specs.HeldSheet.{openedIn, OpenedHeld, configuration, startRead}
+use Rattle.sheet_types.specs.NodeTable.{Opened}
 use Rattle.sheet_types.specs.SectionLaws.{refused-with, refused-never}
 use Rattle.sheet_types.specs.declared.Section.the-variants.{Got, Refused}
-use Rattle.sheet_types.specs.declared.Opened.{Opened}
 use Rattle.sheet_types.specs.declared.StartRead.{StartRead}
 use Rattle.sheet_types.specs.declared.ThreadsRead.{ThreadsRead}
 use Rattle.node_opening.specs.OpenedNodes.{OpenedTable, Few}

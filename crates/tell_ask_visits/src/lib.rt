@@ -2,6 +2,7 @@
 use collected_moves::Noted;
 use label_moves::note_labels;
 use sheet_types::Configuration;
+use sheet_types::TABLE_END;
 use threads_beside::NodeBeside;
 use walk_state::Basis;
 use walk_state::Walk;
@@ -10,9 +11,11 @@ ghost use Prim.Native.Nat.{_≤_, _<_, _^_};
 ghost use lib.ListN.{getD};
 ghost use Rattle.sheets.specs.Sheet.{tell};
 ghost use Rattle.sheet_laws.specs.Ranks.{rankOf};
+ghost use Rattle.sheet_types.specs.NodeTable.{openedOf};
 ghost use Rattle.threads_beside.specs.ThreadsBeside.{nodeBeside};
 ghost use Rattle.walk_state.specs.WalkState.{VisitFits, Walking, TurnedAs};
 ghost use Rattle.tell_ask_visits.specs.TellAskMoves.{AskTurned};
+ghost use Rattle.sheets.specs.SheetLimits.{maxNodes};
 
 // A tell of c: the thread is gone, the store joined with c.
 pub fn visit_tell(work: &mut [u32], c: u16, b: Basis, e: NodeBeside, s: Walk) -> Walked
@@ -45,8 +48,7 @@ pub fn visit_tell(work: &mut [u32], c: u16, b: Basis, e: NodeBeside, s: Walk) ->
 // An ask of c, then node q: a move for each label.
 pub fn visit_ask(
     work: &mut [u32],
-    counts: &[u8; 64],
-    threads: &[u8; 512],
+    table: &[u8; TABLE_END],
     c: u16,
     q: usize,
     b: Basis,
@@ -54,11 +56,11 @@ pub fn visit_ask(
     s: Walk,
 ) -> Walked
     requires { ⌜ Walking rankOf (now work) b s × VisitFits b (nodeBeside e) × (e .count ≤ 8) × (c < 2 ^ b .facts) × (q < b .nodes)
-        × (b .nodes ≤ 64) × (getD (now counts) q 0 ≤ 8) ⌝ }
-    ensures { λ r. ⌜ AskTurned rankOf (now (counts .entry)) (now (threads .entry)) c q b (now (work .entry)) s (nodeBeside e) (now (work .exit)) r ⌝ }
+        × (b .nodes ≤ maxNodes) × (getD (openedOf (now table) .counts) q 0 ≤ 8) ⌝ }
+    ensures { λ r. ⌜ AskTurned rankOf (now (table .entry)) c q b (now (work .entry)) s (nodeBeside e) (now (work .exit)) r ⌝ }
 {
     let l = b.caps;
-    let joined = threads_beside::put_beside(counts, threads, e, q, l.threads);
+    let joined = threads_beside::put_beside(table, e, q, l.threads);
     if !joined.fits {
         return Walked::Over;
     }

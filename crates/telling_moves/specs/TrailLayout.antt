@@ -24,7 +24,7 @@ use Rattle.kept_classes.specs.RoundLayout.{SameSet, same-set-low, held-same, he
 use Rattle.class_splits.specs.ClassedPlaces.{classed-count}
 use Rattle.class_rounds.specs.RoundsDone.{RoundsHeld}
 use Rattle.separations.specs.ApartClasses.{rounds-apart}
-use Rattle.work_layout.specs.WorkLayout.{workEnd, movesAt, classesAt, birthsAt, stepsAt, stepsEnd}
+use Rattle.work_layout.specs.WorkLayout.{workEnd, movesAt, classesAt, birthsAt, stepsAt, stepsEnd, memberRoom}
 use Rattle.work_layout.specs.ClassLayout.{classIn, bornIn, fromIn}
 
 -- the first round that has the members at places i and j apart, by the births of their classes; last where none has
@@ -43,7 +43,7 @@ pub record TrailHeld (sheet : Sheet) (set : List Configuration) (w : List ℕ) (
 -- the classes of n members and their births
 pub record BirthsHeld (w : List ℕ) (n : ℕ) : Type 0 where
   pub count : ℕ
-  pub few : count ≤ 512
+  pub few : count ≤ memberRoom
   pub classes : (i : ℕ) → i < n → classIn w i < count
   pub births : Births (fromIn w) (bornIn w) count
 
@@ -139,7 +139,7 @@ module _ (from born from2 born2 : ℕ → ℕ) (count : ℕ) (B : Births from bo
           ∙ sym (apart-up from born k r a b d e)
 
 -- ---- steps stored behind all this leave it as it is
-module _ {n : ℕ} {v w : List ℕ} (few : n ≤ 512) (B : BirthsHeld v n) (S : SameOutside stepsAt stepsEnd v w) where
+module _ {n : ℕ} {v w : List ℕ} (few : n ≤ memberRoom) (B : BirthsHeld v n) (S : SameOutside stepsAt stepsEnd v w) where
   birth-same : (c : ℕ) → c < B .count → getD w (birthsAt + c) 0 ≡ getD v (birthsAt + c) 0
   birth-same c l = S .at (birthsAt + c) (inr (omega (arith, B .few)))
 

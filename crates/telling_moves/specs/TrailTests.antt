@@ -16,13 +16,13 @@ use Rattle.separations.specs.ApartClasses.{Falls}
 use Rattle.telling_moves.specs.PlaceTests.{someBelow, some-none, some-next, some-hit, First, NoneBefore}
 use Rattle.telling_moves.specs.TrailLayout.{apartAt, Followable, MovesOfOne, MoveOfOne, PairFits}
 use Rattle.telling_moves.specs.TrailPlaces.{moveNumber, liftedPlace, dominatesAt, redundantAt, answersAt, answeredAt, tellsAt, lifted-found-at, lifted-place-is}
-use Rattle.work_layout.specs.WorkLayout.{workEnd, movesAt}
+use Rattle.work_layout.specs.WorkLayout.{workEnd, movesAt, memberRoom, moveRoom}
 use Rattle.work_layout.specs.ClassLayout.{classIn}
 
 -- ---- what reading needs
 -- what looking the first round apart of two members up needs
 abbrev pub ApartFits : List ℕ → ℕ → ℕ → Type 0
-ApartFits w i j = (i ≤ 512) × (j ≤ 512) × Falls w (classIn w i) (classIn w j)
+ApartFits w i j = (i ≤ memberRoom) × (j ≤ memberRoom) × Falls w (classIn w i) (classIn w j)
 
 pub apart-fits : {w : List ℕ} {n last : ℕ} → Followable w n last → (i j : ℕ) → i < n → j < n → ApartFits w i j
 apart-fits {w} {n} {last} F i j li lj =
@@ -45,7 +45,7 @@ pair-apart-fits {w} {last} {i} {j} P = apart-fits (P .follows) i j (P .left) (P 
 -- the slice is long enough, and a place of a member is small
 pub record PlaceFits (w : List ℕ) (i : ℕ) : Type 0 where
   pub long : workEnd ≤ length w
-  pub few : i < 512
+  pub few : i < memberRoom
 
 pub place-fits : {w : List ℕ} {n last : ℕ} → Followable w n last → (i : ℕ) → i < n → PlaceFits w i
 place-fits F i l = record { long = F .held .held .long; few = omega (arith, F .held .held .few .0) }
@@ -53,8 +53,8 @@ place-fits F i l = record { long = F .held .held .long; few = omega (arith, F .h
 -- where the moves of a member are, and what they lead to
 pub record MoveFits (w : List ℕ) (n first j : ℕ) : Type 0 where
   pub long : workEnd ≤ length w
-  pub few : n ≤ 512
-  pub span : first + j < 4096
+  pub few : n ≤ memberRoom
+  pub span : first + j < moveRoom
   pub target : getD w (movesAt + first + j) 0 % 65536 < n
 
 pub move-fits : {w : List ℕ} {n last : ℕ} → Followable w n last → {first j : ℕ} → MoveOfOne w n first j → MoveFits w n first j

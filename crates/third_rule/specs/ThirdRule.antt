@@ -22,6 +22,7 @@ use Rattle.set_growth.specs.SetGrowth.{Growth, Sound, InHand, Gathered}
 use Rattle.walk_state.specs.declared.Basis.{Basis}
 use Rattle.walk_state.specs.WalkState.{MemberFits}
 use Rattle.work_layout.specs.WorkLayout.{tableLength, movesAt, membersAt}
+use Rattle.sheets.specs.SheetLimits.{maxFacts}
 
 -- ---- what is asked of the slice
 -- Members and moves are in order, and speak of the sheet's facts; the slice begins with the table of closures.
@@ -29,7 +30,7 @@ pub record Standing (w : List ℕ) (b : Basis) (s : Running) : Type 0 where
   pub collecting : Collecting w (b .first) s (b .caps)
   pub fit : (x : Configuration) → List·Memᴰ x (membersOf w s) → MemberFits b x
   pub small : (m : Move) → List·Memᴰ m (movesOf w (b .first) s) → m .label < 2 ^ b .facts
-  pub few-facts : b .facts ≤ 12
+  pub few-facts : b .facts ≤ maxFacts
   pub table : TableOf (b .facts) w
 
 -- the sheet of a growth is one whose table of closures the slice has

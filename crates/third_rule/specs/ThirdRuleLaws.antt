@@ -41,7 +41,8 @@ use Rattle.walk_state.specs.declared.Basis.{Basis}
 use Rattle.walk_state.specs.declared.Walk.{Walk}
 use Rattle.walk_state.specs.WalkState.{MemberFits, ThreadsFit, Walking}
 use Rattle.third_rule.specs.ThirdRule.{Standing, OnTable, numberAt, labelAt, moveAt, isFirst, NewLabel, OnlyMembers, AddedOn, AddedOver, Added, AtPlace, BeforePlace, ByFirst, ByEarlier, AllAddedOn}
-use Rattle.work_layout.specs.WorkLayout.{tableLength, movesAt, membersAt}
+use Rattle.work_layout.specs.WorkLayout.{tableLength, movesAt, membersAt, moveRoom}
+use Rattle.sheets.specs.SheetLimits.{maxFacts}
 
 -- ---- the slice of a walk stands so
 pub walking-standing : {rank : ℕ → ℕ} {w : List ℕ} {b : Basis} {s : Walk} → Walking rank w b s → Standing w b (s .running)
@@ -57,7 +58,7 @@ walking-standing h =
 -- ---- the moves by their places
 module _ {b : Basis} {v : List ℕ} {s : Running} (c : Standing v b s) where
   -- there are as many places as moves allowed
-  pub place-in : (i : ℕ) → i < s .moves → (i < 4096) × (movesAt + i < length v)
+  pub place-in : (i : ℕ) → i < s .moves → (i < moveRoom) × (movesAt + i < length v)
   place-in i h = (
     omega (arith, c .collecting .room .2, c .collecting .caps .1),
     omega (arith, c .collecting .room .2, c .collecting .caps .1, c .collecting .long),
@@ -145,20 +146,20 @@ not-first v first j f h =
 -- ---- what stays
 module _ {v w : List ℕ} (o : SameOutside membersAt (membersAt + tableLength) v w) where
   -- the numbers at places of the moves
-  pub number-kept : (i : ℕ) → i < 4096 → numberAt w i ≡ numberAt v i
+  pub number-kept : (i : ℕ) → i < moveRoom → numberAt w i ≡ numberAt v i
   number-kept i h = o .at (movesAt + i) (inl (omega arith))
 
-  pub label-kept : (i : ℕ) → i < 4096 → labelAt w i ≡ labelAt v i
+  pub label-kept : (i : ℕ) → i < moveRoom → labelAt w i ≡ labelAt v i
   label-kept i h = ap (λ (n : ℕ). n / 65536) (number-kept i h)
 
   -- the table of closures
-  low-kept : (facts : ℕ) → facts ≤ 12 → (i : ℕ) → i < 2 ^ facts → getD w i 0 ≡ getD v i 0
+  low-kept : (facts : ℕ) → facts ≤ maxFacts → (i : ℕ) → i < 2 ^ facts → getD w i 0 ≡ getD v i 0
   low-kept facts few i h = o .at i (inl (omega (arith, sets-few facts few)))
 
-  pub table-kept : (facts : ℕ) → facts ≤ 12 → TableOf facts v → TableOf facts w
+  pub table-kept : (facts : ℕ) → facts ≤ maxFacts → TableOf facts v → TableOf facts w
   table-kept facts few t = record { rules = t .rules; closures = closures-agree (t .closures) (low-kept facts few); fit = t .fit }
 
-  pub on-table-kept : {g : Growth} (b : Basis) → b .facts ≤ 12 → OnTable g b v → OnTable g b w
+  pub on-table-kept : {g : Growth} (b : Basis) → b .facts ≤ maxFacts → OnTable g b v → OnTable g b w
   on-table-kept b few t =
       record { sound = t .sound; facts-are = t .facts-are; closures = closures-agree (t .closures) (low-kept (b .facts) few) }
 
@@ -421,7 +422,7 @@ module _ (b : Basis) (v : List ℕ) (s : Running) (c : Standing v b s) where
           go : (q : Bool) → eqb (p .place) j ≡ q → (x : Bool) → isFirst v (b .first) j ≡ x
               → ByEarlier v (b .first) s j k l ⊎ ByFirst w (b .first) t j k l
           go true q true x =
-              let small : j < 4096 = place-in c j high .0 in
+              let small : j < moveRoom = place-in c j high .0 in
               let same : isFirst w (b .first) j ≡ isFirst v (b .first) j =
               ap₂ (λ (m n : ℕ). eqb j (b .first) || not (eqb m n)) (label-kept (e .kept .inside) (j - 1) (omega arith))
               (label-kept (e .kept .inside) j small) in

@@ -9,11 +9,11 @@ ghost use mathlib.Core.Path.{_≡_};
 ghost use Prim.Native.Nat.{_+_, _≤_, _<_};
 ghost use lib.ListN.{length};
 ghost use Rattle.third_rule.specs.ThirdRule.{Standing, NewLabel, Added, AllAdded, AtPlace, BeforePlace, ByFirst, labelAt, isFirst};
-ghost use Rattle.work_layout.specs.WorkLayout.{movesAt};
+ghost use Rattle.work_layout.specs.WorkLayout.{movesAt, moveRoom};
 
 // The label of the move at place i.
 fn label_at(work: &[u32], i: usize) -> u16
-    requires { ⌜ (i < 4096) × (movesAt + i < length (now work)) ⌝ }
+    requires { ⌜ (i < moveRoom) × (movesAt + i < length (now work)) ⌝ }
     ensures { λ r. ⌜ r ≡ labelAt (now (work .entry)) i ⌝ }
 {
     (work[MOVES + i] / 65536) as u16
@@ -60,7 +60,7 @@ fn add_to_all(work: &mut [u32], j: usize, label: u16, b: Basis, s: Running) -> N
 
 // Whether the move at place j is the first with its label.
 fn first_with_label(work: &[u32], first: usize, j: usize) -> bool
-    requires { ⌜ (first ≤ j) × (j < 4096) × (movesAt + j < length (now work)) ⌝ }
+    requires { ⌜ (first ≤ j) × (j < moveRoom) × (movesAt + j < length (now work)) ⌝ }
     ensures { λ r. ⌜ r ≡ isFirst (now (work .entry)) first j ⌝ }
 {
     if j == first {

@@ -1,13 +1,17 @@
 // A node with threads beside it: as three numbers, threads put among those beside it, a thread of a configuration taken out.
 use packing::Numbers;
 use sheet_types::Configuration;
+use sheet_types::TABLE_END;
+use sheet_types::THREADS;
 ghost use mathlib.Core.Path.{_≡_};
-ghost use Prim.Native.Nat.{_+_, _*_, _≤_, _<_};
+ghost use Prim.Native.Nat.{_+_, _≤_, _<_};
 ghost use lib.ListN.{length, getD, take, drop};
 ghost use Rattle.lists.specs.Lists.{NotFalling};
 ghost use Rattle.list_laws.specs.SortingLaws.{insertAll};
 ghost use Rattle.packing.specs.Packing.{PackedIn};
-ghost use Rattle.sheet_types.specs.HeldSheet.{configuration};
+ghost use Rattle.sheets.specs.SheetLimits.{maxNodes};
+ghost use Rattle.sheet_types.specs.HeldSheet.{configuration, openedIn};
+ghost use Rattle.sheet_types.specs.NodeTable.{openedOf};
 ghost use Rattle.threads_beside.specs.ThreadsBeside.{nodeBeside, nodeFor, threadAt, PutBeside};
 
 // A node to visit with at most eight threads beside it, in ascending order.
@@ -69,24 +73,18 @@ fn insert_from(opened: &[u8], from: usize, more: usize, old: [u8; 8], n: usize) 
 }
 
 // e with the threads that node q opens to put among its own; e itself where they are more than the limit.
-pub fn put_beside(
-    counts: &[u8; 64],
-    opened: &[u8; 512],
-    e: NodeBeside,
-    q: usize,
-    limit: usize,
-) -> Beside
-    requires { ⌜ (q < 64) × (e .count ≤ limit) × (limit ≤ 8) × (getD (now counts) q 0 ≤ 8) × NotFalling (nodeBeside e .threads) ⌝ }
-    ensures { λ r. ⌜ PutBeside (take (getD (now (counts .entry)) q 0) (drop (8 * q) (now (opened .entry)))) e limit r ⌝ }
+pub fn put_beside(table: &[u8; TABLE_END], e: NodeBeside, q: usize, limit: usize) -> Beside
+    requires { ⌜ (q < maxNodes) × (e .count ≤ limit) × (limit ≤ 8) × (getD (openedOf (now table) .counts) q 0 ≤ 8) × NotFalling (nodeBeside e .threads) ⌝ }
+    ensures { λ r. ⌜ PutBeside (openedIn (openedOf (now (table .entry))) q) e limit r ⌝ }
 {
     let n = e.count as usize;
-    let more = small_numbers::wide(counts[q]);
-    let table: &[u8] = opened;
+    let more = sheet_types::count_in(table, q);
+    let opened: &[u8] = table;
     if limit < n + more {
         return Beside { fits: false, at: e };
     }
     let old = e.threads;
-    let threads = insert_from(table, 8 * q, more, old, n);
+    let threads = insert_from(opened, THREADS + 8 * q, more, old, n);
     let count = (n + more) as u8;
     Beside {
         fits: true,

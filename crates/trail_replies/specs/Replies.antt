@@ -20,7 +20,7 @@ use Rattle.comparison.specs.Trail.{Reply, none, move, highest, highestOf, reply
 use Rattle.kept_classes.specs.RoundLayout.{number-in}
 use Rattle.telling_moves.specs.TrailLayout.{apartAt, TrailHeld}
 use Rattle.telling_moves.specs.TrailPlaces.{moveNumber}
-use Rattle.work_layout.specs.WorkLayout.{movesAt}
+use Rattle.work_layout.specs.WorkLayout.{movesAt, memberRoom}
 
 -- ---- what is computed
 -- the later of the best target so far and that of move x, in reply to move y; 65535 stands for none
@@ -115,7 +115,7 @@ module _ {sheet : Sheet} {set : List Configuration} {w : List ℕ} {n m last : �
         for-move (moveFrom w x) (ap (λ (r : Reply). improved (value y) r (moveFrom w x)) e) (rw (eq-eqb u 65535 f) lx)
         (rw (eq-eqb u 65535 f))
     improves reply u (for-move k e l t) =
-        let few : n ≤ 512 = T .held .few .0 in
+        let few : n ≤ memberRoom = T .held .few .0 in
         let d : eqb u 65535 ≡ false = ne-eqb u 65535 (λ z. omega arith) in
         let a : value y (k .target) ≡ apartAt w last (y % 65536) u =
         ap (value y) t ∙ sym (T .first-apart (y % 65536) u ly l) in

@@ -3,7 +3,7 @@ use mathlib.Core.Path.{_≡_, refl, sym, ap, ap₂, _∙_, subst}
 use mathlib.Core.Logic.{inl}
 use mathlib.Core.Bool.{Bool, true, false, cond}
 use mathlib.Core.List.{List, [], _∷_, _++_, map, append-assoc, append-nil}
-use Prim.Native.Nat.{ℕ, suc, _+_, _*_, _-_, _/_, _%_, _≤_, _<_}
+use Prim.Native.Nat.{ℕ, suc, _+_, _*_, _-_, _%_, _≤_, _<_}
 use native.Mathlib.Omega.{arith}
 use lib.ListN.{length, getD, set, length-set, length-map}
 use lib.Seq.{getD-set-same, getD-set-other}
@@ -21,7 +21,7 @@ use Rattle.report_bytes.specs.ReportInSlice.{StepNumbers, stepIn, stepNumbers}
 use Rattle.telling_moves.specs.TrailLayout.{apartAt, TrailHeld, Followable, rounds-few, trail-held-same, member-same, followable-same}
 use Rattle.trail_replies.specs.Replies.{replyAt}
 use Rattle.trail_search.specs.TakenMove.{Takes, stepOf, otherOf, nextLeft, nextRight, Followed, takes-target, step-follows, trail-apart-never, trail-apart-first}
-use Rattle.work_layout.specs.WorkLayout.{workEnd, stepsAt, stepsEnd}
+use Rattle.work_layout.specs.WorkLayout.{workEnd, stepsAt, stepsEnd, memberRoom}
 
 -- step k stored
 abbrev pub stepStored : List ℕ → ℕ → ℕ → ℕ → ℕ → List ℕ
@@ -53,6 +53,12 @@ unfolding trailFrom
 trail-zero sheet set x y = refl
 
 -- ---- one step stored
+-- a step by the three numbers that stand for it
+step-read : (u : List ℕ) (i : ℕ) {x y z : ℕ} → getD u (stepsAt + 3 * i) 0 ≡ x → getD u (stepsAt + 3 * i + 1) 0 ≡ y
+    → getD u (stepsAt + 3 * i + 2) 0 ≡ z → stepIn u i ≡ stepOf x y z
+step-read u i {x} a b c =
+    ap (λ (t : ℕ). stepOf t (getD u (stepsAt + 3 * i + 1) 0) (getD u (stepsAt + 3 * i + 2) 0)) a ∙ ap₂ (λ (t v : ℕ). stepOf x t v) b c
+
 module _ (w : List ℕ) (k side number reply : ℕ) (fits : stepsAt + 3 * k + 2 < length w) where
   abbrev one : List ℕ
   one = set w (stepsAt + 3 * k) side
@@ -73,13 +79,7 @@ module _ (w : List ℕ) (k side number reply : ℕ) (fits : stepsAt + 3 * k + 2 
       let a = stored-outside .at (stepsAt + 3 * i) (inl (omega arith)) in
       let b = stored-outside .at (stepsAt + 3 * i + 1) (inl (omega arith)) in
       let c = stored-outside .at (stepsAt + 3 * i + 2) (inl (omega arith)) in
-      ap (λ (x : ℕ). record {
-        side = x;
-        label = getD (stepStored w k side number reply) (stepsAt + 3 * i + 1) 0 / 65536;
-        target = getD (stepStored w k side number reply) (stepsAt + 3 * i + 1) 0 % 65536;
-        reply = getD (stepStored w k side number reply) (stepsAt + 3 * i + 2) 0;
-      }) a
-      ∙ ap₂ (λ (y z : ℕ). record { side = getD w (stepsAt + 3 * i) 0; label = y / 65536; target = y % 65536; reply = z }) b c
+      step-read (stepStored w k side number reply) i a b c
 
   stored-here : stepIn (stepStored w k side number reply) k ≡ stepOf side number reply
   stored-here =
@@ -94,13 +94,7 @@ module _ (w : List ℕ) (k side number reply : ℕ) (fits : stepsAt + 3 * k + 2 
       getD-set-other two (stepsAt + 3 * k + 2) (stepsAt + 3 * k) reply 0 (λ e. omega arith)
       ∙ getD-set-other one (stepsAt + 3 * k + 1) (stepsAt + 3 * k) number 0 (λ e. omega arith)
       ∙ getD-set-same w (stepsAt + 3 * k) side 0 (omega arith) in
-      ap (λ (x : ℕ). record {
-        side = x;
-        label = getD (stepStored w k side number reply) (stepsAt + 3 * k + 1) 0 / 65536;
-        target = getD (stepStored w k side number reply) (stepsAt + 3 * k + 1) 0 % 65536;
-        reply = getD (stepStored w k side number reply) (stepsAt + 3 * k + 2) 0;
-      }) a
-      ∙ ap₂ (λ (y z : ℕ). record { side = side; label = y / 65536; target = y % 65536; reply = z }) b c
+      step-read (stepStored w k side number reply) k a b c
 
   stored-steps : tabulate (stepIn (stepStored w k side number reply)) (k + 1) ≡ tabulate (stepIn w) k ++ (stepOf side number reply ∷ [])
   stored-steps =
@@ -108,9 +102,9 @@ module _ (w : List ℕ) (k side number reply : ℕ) (fits : stepsAt + 3 * k + 2 
       ∙ ap₂ (λ (l : List StepNumbers) (s : StepNumbers). l ++ (s ∷ []))
       (tabulate-same (stepIn (stepStored w k side number reply)) (stepIn w) k stored-before) stored-here
 
-module _ (v : List ℕ) (n last p q : ℕ) (F : Followable v n last) (lp : p < n) (lq : q < n) where
+module _ {v : List ℕ} {n last p q : ℕ} (F : Followable v n last) (lp : p < n) (lq : q < n) where
   -- ---- how many steps there can be
-  last-few : last ≤ 512
+  last-few : last ≤ memberRoom
   last-few = omega (arith, rounds-few F (omega arith), F .held .held .few .0)
 
   -- a trail that is whole has fewer steps than there are rounds
@@ -142,7 +136,7 @@ module _ (v : List ℕ) (n last p q : ℕ) (F : Followable v n last) (lp : p < n
         (trailFrom sheet set (rounds sheet set) (last - 0) (memberAt v p) (memberAt v q))) (tabulate-none (stepIn v)));
   }
 
-  module _ (w : List ℕ) (i j k : ℕ) (G : Following v n last p q w i j k) where
+  module _ {w : List ℕ} {i j k : ℕ} (G : Following v n last p q w i j k) where
     -- what could be followed in v can be in w
     pub follows-now : Followable w n last
     follows-now = followable-same F (G .outside)
@@ -154,7 +148,7 @@ module _ (v : List ℕ) (n last p q : ℕ) (F : Followable v n last) (lp : p < n
         → trailFrom sheet set (rounds sheet set) f (memberAt v a) (memberAt v b)
         ≡ trailFrom sheet set (rounds sheet set) f (memberAt w a) (memberAt w b)
     members-now sheet set m T f a b la lb =
-        let few : n ≤ 512 = F .held .held .few .0 in
+        let few : n ≤ memberRoom = F .held .held .few .0 in
         ap₂ (λ (x y : Configuration). trailFrom sheet set (rounds sheet set) f x y)
         (sym (member-same few (F .births) (G .outside) sheet set m last T a la))
         (sym (member-same few (F .births) (G .outside) sheet set m last T b lb))
@@ -172,15 +166,15 @@ module _ (v : List ℕ) (n last p q : ℕ) (F : Followable v n last) (lp : p < n
         record { outside = G .outside; short = whole-short w k (s (F .sheet) (F .set) (F .m) (F .held)); steps = s }
 
     -- the pair is apart from the first round on
-    pub following-stop-first : (a : ℕ) → a ≡ apartAt w last i j → a ≡ 0 → Trailed v n last p q w k
-    following-stop-first a s e =
+    pub following-stop-first : {a : ℕ} → a ≡ apartAt w last i j → a ≡ 0 → Trailed v n last p q w k
+    following-stop-first s e =
         whole (λ sheet set m T.
         members-now sheet set m T (last - k) i j (G .lefts) (G .rights)
         ∙ trail-apart-first (held-now sheet set m T) (last - k) i j (G .lefts) (G .rights) (sym s ∙ e))
 
     -- or never
-    pub following-stop-never : (a : ℕ) → a ≡ apartAt w last i j → a ≡ last → Trailed v n last p q w k
-    following-stop-never a s e =
+    pub following-stop-never : {a : ℕ} → a ≡ apartAt w last i j → a ≡ last → Trailed v n last p q w k
+    following-stop-never s e =
         whole (λ sheet set m T.
         members-now sheet set m T (last - k) i j (G .lefts) (G .rights)
         ∙ trail-apart-never (held-now sheet set m T) (last - k) i j (G .lefts) (G .rights) (sym s ∙ e))
@@ -194,7 +188,7 @@ module _ (v : List ℕ) (n last p q : ℕ) (F : Followable v n last) (lp : p < n
         ∙ trail-zero sheet set (memberAt v i) (memberAt v j))
 
     -- ---- one step more
-    module _ (side number reply : ℕ) (early : k < last) (some : apartAt w last i j ≡ 0 → ⊥) (ever : apartAt w last i j ≡ last → ⊥)
+    module _ {side number reply : ℕ} (early : k < last) (some : apartAt w last i j ≡ 0 → ⊥) (ever : apartAt w last i j ≡ last → ⊥)
         (T : Takes w n last (apartAt w last i j - 1) i j side number) (is : reply ≡ replyAt w last number (otherOf side i j))
         (long : workEnd ≤ length w) where
       abbrev next : List ℕ

@@ -1,29 +1,29 @@
 -- The move that is taken at a pair and the step that it makes, by places.
 use mathlib.Core.Path.{_≡_, refl, sym, ap, ap₂, _∙_, subst}
-use mathlib.Core.Bool.{true, cond, not, _&&_, _||_}
-use mathlib.Core.List.{List, [], _∷_, map, List·Memᴰ, List·Memᴰ·not-nil}
+use mathlib.Core.Bool.{true, cond}
+use mathlib.Core.List.{List, [], _∷_, map}
 use Prim.Native.Nat.{ℕ, zero, suc, _-_, _/_, _%_, _≤_, _<_}
 use native.Mathlib.Omega.{arith}
 use lib.ListN.{length, getD}
 use lib.Dec.{eqb}
 use borrow.Author.Tests.{eq-eqb, ne-eqb, lt-ltb, le-ltb}
-use Rattle.list_laws.specs.TestLaws.{true-false, and-intro, or-left, or-right, or-fails, not-passes, Tested, tested, passes, fails}
-use Rattle.list_laws.specs.Members.{select-mem, all-of}
+use Rattle.list_laws.specs.TestLaws.{true-false, and-intro, or-left, or-fails}
 use Rattle.sheets.specs.Sheet.{Configuration, Sheet}
 use Rattle.moves.specs.Orders.{Move}
-use Rattle.moves.specs.Moves.{moves}
 use Rattle.work_layout.specs.SetLayout.{memberAt, firstMove, moveTotal, moveFrom}
 use Rattle.comparison.specs.Classes.{placeOf, share}
-use Rattle.comparison.specs.Rounds.{redundant, answers, answered, together, rounds, apartIn}
-use Rattle.comparison.specs.Trail.{left, right, Reply, none, move, TrailStep, unanswered, replyTo, after, firstOf, trailFrom}
+use Rattle.comparison.specs.Rounds.{together, rounds, apartIn}
+use Rattle.comparison.specs.Trail.{Side, left, right, Reply, none, move, TrailStep, unanswered, replyTo, after, firstOf, trailFrom}
+use Rattle.comparison.specs.Report.{sideByte}
 use Rattle.comparison_laws.specs.RoundLaws.{together-yes}
-use Rattle.comparison_laws.specs.TrailLaws.{apart-le, trail-none}
+use Rattle.comparison_laws.specs.TrailLaws.{apart-le, trail-none, unanswered-none}
 use Rattle.kept_classes.specs.RoundLayout.{held-in, held-place, number-in}
 use Rattle.report_bytes.specs.ReportInSlice.{StepNumbers, stepNumbers}
 use Rattle.telling_moves.specs.PlaceTests.{First}
 use Rattle.telling_moves.specs.TrailLayout.{apartAt, TrailHeld}
 use Rattle.telling_moves.specs.TrailPlaces.{moveNumber, tellsAt, sharing-held, share-before, untold-none, untold-first}
 use Rattle.trail_replies.specs.Replies.{replyAt, StandsFor, for-none, for-move, reply-stands}
+use Rattle.work_layout.specs.WorkLayout.{memberRoom}
 
 -- The move that is taken at the pair of places p and q in round r: the left's first one that tells, else the right's. Where
 -- neither has one, the right's with number 0.
@@ -66,21 +66,6 @@ module _ {sheet : Sheet} {set : List Configuration} {w : List ℕ} {n m last : �
       (T .held .targets q (moveNumber w q j) lq (number-in sheet set w n m (T .held) q j lq l))
   takes-target lp lq (from-none G F s e) = omega arith
 
-  -- every irredundant move has an answer where none is left without
-  all-answered : (classes : List ℕ) (p q : Configuration) → unanswered sheet set rs classes p q ≡ [] → answered sheet set classes p q ≡ true
-  all-answered classes p q e =
-      all-of (λ a. redundant sheet set classes p a || answers sheet set classes q a) (moves sheet p)
-      (λ a i. go a i (tested (redundant sheet set classes p a)) (tested (answers sheet set classes q a)))
-    where
-      go : (a : Move) → List·Memᴰ a (moves sheet p) → Tested (redundant sheet set classes p a) → Tested (answers sheet set classes q a)
-          → (redundant sheet set classes p a || answers sheet set classes q a) ≡ true
-      go a i (passes h) t = or-left (answers sheet set classes q a) h
-      go a i (fails h) (passes k) = or-right (redundant sheet set classes p a) k
-      go a i (fails h) (fails k) =
-          absurd (List·Memᴰ·not-nil (subst (λ (ms : List Move). List·Memᴰ a ms) e
-          (select-mem (λ b. not (redundant sheet set classes p b) && not (answers sheet set classes q b)) (moves sheet p) {a = a} i
-          (and-intro (not-passes h) (not-passes k)))))
-
   module _ (p q : ℕ) (lp : p < n) (lq : q < n) (some : apartAt w last p q ≡ 0 → ⊥) (early : apartAt w last p q ≡ last → ⊥) where
     -- the round in which a move is looked for
     abbrev round : ℕ
@@ -104,7 +89,7 @@ module _ {sheet : Sheet} {set : List Configuration} {w : List ℕ} {n m last : �
         let mq = held-in sheet set w n m (T .held) q lq in
         let t : together sheet set (getD rs round []) P Q ≡ true =
         and-intro (share-before T round p q round-early lp lq ∙ lt-ltb round a (omega arith))
-        (and-intro (all-answered (getD rs round []) P Q e) (all-answered (getD rs round []) Q P f)) in
+        (and-intro (unanswered-none sheet set rs (getD rs round []) P Q e) (unanswered-none sheet set rs (getD rs round []) Q P f)) in
         let g = together-yes sheet (T .wf) set (T .closed) (getD rs round []) round (sharing-held T round p round-early lp) P Q mp mq t in
         true-false (share set (getD rs (suc round) []) P Q)
         (sharing-held T (suc round) p (omega (arith, apart-early)) lp .from-round P Q mp mq g)
@@ -148,43 +133,38 @@ module _ {sheet : Sheet} {set : List Configuration} {w : List ℕ} {n m last : �
       place-y : placeOf set (memberAt w (y % 65536)) ≡ y % 65536
       place-y = held-place sheet set w n m (T .held) (T .ascends) (y % 65536) ly
 
-      left-after : (k : Reply) → StandsFor w n k u → Followed f 0 y u (after sheet set rs (trailFrom sheet set rs f) left (moveFrom w y) k)
-      left-after k (for-none e z) =
-          subst (λ (r : Reply). Followed f 0 y u (after sheet set rs (trailFrom sheet set rs f) left (moveFrom w y) r)) (sym e) (record {
-            alone = λ _. ap₂ (λ (t v : ℕ). record { side = 0; label = y / 65536; target = t; reply = v } ∷ []) place-y (sym z);
-            inside = λ d. absurd (d z);
-            on = λ d. absurd (d z);
-          })
-      left-after k (for-move a e l t) =
-          let few : n ≤ 512 = T .held .few .0 in
-          let g : placeOf set (a .target) ≡ u = ap (placeOf set) t ∙ held-place sheet set w n m (T .held) (T .ascends) u l in
-          subst (λ (r : Reply). Followed f 0 y u (after sheet set rs (trailFrom sheet set rs f) left (moveFrom w y) r)) (sym e) (record {
-            alone = λ z. absurd (omega arith);
-            inside = λ d. l;
-            on = λ d.
-                ap₂ (λ (s : StepNumbers) (c : Configuration). s
-                ∷ map (stepNumbers set) (trailFrom sheet set rs f (memberAt w (y % 65536)) c))
-                (ap₂ (λ (i v : ℕ). record { side = 0; label = y / 65536; target = i; reply = v }) place-y g) t;
-          })
+      -- its numbers
+      step-numbers : (s : Side) {t : ℕ} → t ≡ u
+          → record { side = sideByte s; label = y / 65536; target = placeOf set (memberAt w (y % 65536)); reply = t } ≡ stepOf (sideByte s) y u
+      step-numbers s e = ap₂ (λ (i v : ℕ). record { side = sideByte s; label = y / 65536; target = i; reply = v }) place-y e
 
-      right-after : (k : Reply) → StandsFor w n k u
-          → Followed f 1 y u (after sheet set rs (trailFrom sheet set rs f) right (moveFrom w y) k)
-      right-after k (for-none e z) =
-          subst (λ (r : Reply). Followed f 1 y u (after sheet set rs (trailFrom sheet set rs f) right (moveFrom w y) r)) (sym e) (record {
-            alone = λ _. ap₂ (λ (t v : ℕ). record { side = 1; label = y / 65536; target = t; reply = v } ∷ []) place-y (sym z);
+      -- the steps from the new pair on, the sides kept
+      on-after : (s : Side) (a : Move) → placeOf set (a .target) ≡ u → a .target ≡ memberAt w u
+          → map (stepNumbers set) (after sheet set rs (trailFrom sheet set rs f) s (moveFrom w y) (move a))
+          ≡ stepOf (sideByte s) y u
+          ∷ map (stepNumbers set) (trailFrom sheet set rs f (memberAt w (nextLeft (sideByte s) y u)) (memberAt w (nextRight (sideByte s) y u)))
+      on-after left a g t =
+          ap₂ (λ (x : StepNumbers) (c : Configuration). x ∷ map (stepNumbers set) (trailFrom sheet set rs f (memberAt w (y % 65536)) c))
+          (step-numbers left g) t
+      on-after right a g t =
+          ap₂ (λ (x : StepNumbers) (c : Configuration). x ∷ map (stepNumbers set) (trailFrom sheet set rs f c (memberAt w (y % 65536))))
+          (step-numbers right g) t
+
+      side-after : (s : Side) (k : Reply) → StandsFor w n k u
+          → Followed f (sideByte s) y u (after sheet set rs (trailFrom sheet set rs f) s (moveFrom w y) k)
+      side-after s k (for-none e z) =
+          subst (λ (r : Reply). Followed f (sideByte s) y u (after sheet set rs (trailFrom sheet set rs f) s (moveFrom w y) r)) (sym e) (record {
+            alone = λ _. ap (λ (x : StepNumbers). x ∷ []) (step-numbers s (sym z));
             inside = λ d. absurd (d z);
             on = λ d. absurd (d z);
           })
-      right-after k (for-move a e l t) =
-          let few : n ≤ 512 = T .held .few .0 in
+      side-after s k (for-move a e l t) =
+          let few : n ≤ memberRoom = T .held .few .0 in
           let g : placeOf set (a .target) ≡ u = ap (placeOf set) t ∙ held-place sheet set w n m (T .held) (T .ascends) u l in
-          subst (λ (r : Reply). Followed f 1 y u (after sheet set rs (trailFrom sheet set rs f) right (moveFrom w y) r)) (sym e) (record {
+          subst (λ (r : Reply). Followed f (sideByte s) y u (after sheet set rs (trailFrom sheet set rs f) s (moveFrom w y) r)) (sym e) (record {
             alone = λ z. absurd (omega arith);
             inside = λ d. l;
-            on = λ d.
-                ap₂ (λ (s : StepNumbers) (c : Configuration). s
-                ∷ map (stepNumbers set) (trailFrom sheet set rs f c (memberAt w (y % 65536))))
-                (ap₂ (λ (i v : ℕ). record { side = 1; label = y / 65536; target = i; reply = v }) place-y g) t;
+            on = λ d. on-after s a g t;
           })
 
     -- the step that is taken begins the trail from the pair
@@ -192,29 +172,33 @@ module _ {sheet : Sheet} {set : List Configuration} {w : List ℕ} {n m last : �
         → Followed f side y (replyAt w last y (otherOf side p q)) (trailFrom sheet set rs (suc f) (memberAt w p) (memberAt w q))
     step-follows f side y t = go t (takes-target lp lq t)
       where
+        -- by a move of this side
+        by : (d : Side) → side ≡ sideByte d → y % 65536 < n → otherOf (sideByte d) p q < n
+            → trailFrom sheet set rs (suc f) (memberAt w p) (memberAt w q)
+            ≡ after sheet set rs (trailFrom sheet set rs f) d (moveFrom w y)
+            (replyTo sheet set rs (memberAt w (otherOf (sideByte d) p q)) (moveFrom w y))
+            → Followed f side y (replyAt w last y (otherOf side p q)) (trailFrom sheet set rs (suc f) (memberAt w p) (memberAt w q))
+        by d s ly lo e =
+            let o : ℕ = otherOf (sideByte d) p q in
+            subst (λ (i : ℕ). Followed f i y (replyAt w last y (otherOf i p q))
+            (trailFrom sheet set rs (suc f) (memberAt w p) (memberAt w q)))
+            (sym s)
+            (subst (Followed f (sideByte d) y (replyAt w last y o)) (sym e)
+            (side-after f y (replyAt w last y o) ly d (replyTo sheet set rs (memberAt w o) (moveFrom w y)) (reply-stands T y o ly lo)))
+
         go : Takes w n last round p q side y → y % 65536 < n
             → Followed f side y (replyAt w last y (otherOf side p q)) (trailFrom sheet set rs (suc f) (memberAt w p) (memberAt w q))
         go (from-left j F l s e) ly =
             let x = untold-first T round p q round-early lp lq j F l in
-            subst (λ (i : ℕ). Followed f i y (replyAt w last y (otherOf i p q))
-            (trailFrom sheet set rs (suc f) (memberAt w p) (memberAt w q)))
-            (sym s)
-            (subst (Followed f 0 y (replyAt w last y q))
-            (sym (trail-opens f
+            by left s ly lq (trail-opens f
             ∙ ap (λ (ms : List Move). firstOf sheet set rs (trailFrom sheet set rs f) (memberAt w p) (memberAt w q) ms
             (unanswered sheet set rs (getD rs round []) (memberAt w q) (memberAt w p)))
-            (x .1 ∙ ap (λ (i : ℕ). moveFrom w i ∷ x .0) (sym e))))
-            (left-after f y (replyAt w last y q) ly (replyTo sheet set rs (memberAt w q) (moveFrom w y)) (reply-stands T y q ly lq)))
+            (x .1 ∙ ap (λ (i : ℕ). moveFrom w i ∷ x .0) (sym e)))
         go (from-right G j F l s e) ly =
             let x = untold-first T round q p round-early lq lp j F l in
-            subst (λ (i : ℕ). Followed f i y (replyAt w last y (otherOf i p q))
-            (trailFrom sheet set rs (suc f) (memberAt w p) (memberAt w q)))
-            (sym s)
-            (subst (Followed f 1 y (replyAt w last y p))
-            (sym (trail-opens f
+            by right s ly lp (trail-opens f
             ∙ ap₂ (λ (ms ks : List Move). firstOf sheet set rs (trailFrom sheet set rs f) (memberAt w p) (memberAt w q) ms ks)
-            (untold-none T round p q round-early lp lq G) (x .1 ∙ ap (λ (i : ℕ). moveFrom w i ∷ x .0) (sym e))))
-            (right-after f y (replyAt w last y p) ly (replyTo sheet set rs (memberAt w p) (moveFrom w y)) (reply-stands T y p ly lp)))
+            (untold-none T round p q round-early lp lq G) (x .1 ∙ ap (λ (i : ℕ). moveFrom w i ∷ x .0) (sym e)))
         go (from-none G F s e) ly =
             absurd (one-tells (untold-none T round p q round-early lp lq G) (untold-none T round q p round-early lq lp F))
 

@@ -11,7 +11,7 @@ ghost use lib.ListN.{length};
 ghost use Rattle.telling_moves.specs.TrailLayout.{Followable};
 ghost use Rattle.trail_search.specs.TakenMove.{Takes, otherOf, nextLeft, nextRight};
 ghost use Rattle.trail_search.specs.FollowedTrail.{stepStored, Trailed};
-ghost use Rattle.work_layout.specs.WorkLayout.{workEnd};
+ghost use Rattle.work_layout.specs.WorkLayout.{workEnd, memberRoom};
 
 // A move that was taken: 0 for the left, 1 for the right, and its number.
 pub struct Taken {
@@ -49,7 +49,7 @@ fn take_move(work: &[u32], n: usize, last: usize, p: usize, q: usize, r: usize) 
 
 // Stores step k.
 fn put_step(work: &mut [u32], k: usize, side: u32, number: u32, reply: u32)
-    requires { ⌜ (k ≤ 512) × (workEnd ≤ length (now work)) ⌝ }
+    requires { ⌜ (k ≤ memberRoom) × (workEnd ≤ length (now work)) ⌝ }
     ensures { λ _. ⌜ now (work .exit) ≡ stepStored (now (work .entry)) k side number reply ⌝ }
 {
     number_lists::put_three(work, STEPS + 3 * k, side, number, reply);

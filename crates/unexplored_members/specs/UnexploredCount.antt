@@ -8,22 +8,22 @@ use lib.ListN.{getD}
 use lib.Dec.{eqb}
 use borrow.Author.Tests.{eqb-true, eqb-false, eq-eqb, ne-eqb}
 use Rattle.unexplored_members.specs.UnexploredMembers.{IsExplored}
-use Rattle.work_layout.specs.WorkLayout.{spansAt}
+use Rattle.work_layout.specs.WorkLayout.{spansAt, memberRoom}
 
 -- of the ids below k
 unfoldable pub unexploredBelow : List ℕ → ℕ → ℕ
 unexploredBelow w zero = 0
 unexploredBelow w (suc k) = cond (eqb (getD w (spansAt + k) 0) 0) 1 0 + unexploredBelow w k
 
-module _ (v w : List ℕ) (id : ℕ) (same : (i : ℕ) → i < 512 → (i ≡ id → ⊥) → getD w (spansAt + i) 0 ≡ getD v (spansAt + i) 0) where
-  count-same : (k : ℕ) → k ≤ id → k ≤ 512 → unexploredBelow w k ≡ unexploredBelow v k
+module _ (v w : List ℕ) (id : ℕ) (same : (i : ℕ) → i < memberRoom → (i ≡ id → ⊥) → getD w (spansAt + i) 0 ≡ getD v (spansAt + i) 0) where
+  count-same : (k : ℕ) → k ≤ id → k ≤ memberRoom → unexploredBelow w k ≡ unexploredBelow v k
   unfolding unexploredBelow
   count-same zero h l = refl
   count-same (suc k) h l =
       ap₂ _+_ (ap (λ (n : ℕ). cond (eqb n 0) 1 0) (same k (omega arith) (λ e. omega arith))) (count-same k (omega arith) (omega arith))
 
   -- one fewer
-  count-less : getD v (spansAt + id) 0 ≡ 0 → IsExplored w id → (k : ℕ) → id < k → k ≤ 512 → unexploredBelow w k < unexploredBelow v k
+  count-less : getD v (spansAt + id) 0 ≡ 0 → IsExplored w id → (k : ℕ) → id < k → k ≤ memberRoom → unexploredBelow w k < unexploredBelow v k
   unfolding unexploredBelow
   count-less z e zero h l = absurd (omega arith)
   count-less z e (suc k) h l = go (λ p. count-less z e k p (omega arith)) (eqb k id) refl
@@ -44,5 +44,5 @@ module _ (v w : List ℕ) (id : ℕ) (same : (i : ℕ) → i < 512 → (i ≡ id
           ap (λ (m : ℕ). cond {A = ℕ} (eqb m 0) 1 0) (same k (omega arith) n) in
           omega (arith, p, ih (omega arith))
 
-  pub unexplored-less : getD v (spansAt + id) 0 ≡ 0 → IsExplored w id → id < 512 → unexploredBelow w 512 < unexploredBelow v 512
-  unexplored-less z e h = count-less z e 512 h (omega arith)
+  pub unexplored-less : getD v (spansAt + id) 0 ≡ 0 → IsExplored w id → id < memberRoom → unexploredBelow w memberRoom < unexploredBelow v memberRoom
+  unexplored-less z e h = count-less z e memberRoom h (omega arith)

@@ -8,11 +8,11 @@ ghost use lib.ListN.{length, getD, set};
 ghost use Rattle.member_table.specs.MemberTable.{Kept};
 ghost use Rattle.collected_moves.specs.CollectedMoves.{memberPart};
 ghost use Rattle.unexplored_members.specs.UnexploredMembers.{spanOf, NextPlace};
-ghost use Rattle.work_layout.specs.WorkLayout.{workEnd, spansAt};
+ghost use Rattle.work_layout.specs.WorkLayout.{workEnd, spansAt, memberRoom, moveRoom};
 
 // Stores where the moves of a member stand.
 pub fn put_span(work: &mut [u32], id: usize, first: usize, end: usize)
-    requires { ⌜ (id < 512) × (first ≤ end) × (end ≤ 4096) × (workEnd ≤ length (now work)) ⌝ }
+    requires { ⌜ (id < memberRoom) × (first ≤ end) × (end ≤ moveRoom) × (workEnd ≤ length (now work)) ⌝ }
     ensures { λ _. ⌜ now (work .exit) ≡ set (now (work .entry)) (spansAt + id) (spanOf first end) ⌝ }
 {
     work[SPANS + id] = (first as u32) * 65536 + (end - first) as u32 + 1;
@@ -20,7 +20,7 @@ pub fn put_span(work: &mut [u32], id: usize, first: usize, end: usize)
 
 // Whether a member is unexplored: no span is stored.
 fn unexplored(work: &[u32], id: usize) -> bool
-    requires { ⌜ (id < 512) × (workEnd ≤ length (now work)) ⌝ }
+    requires { ⌜ (id < memberRoom) × (workEnd ≤ length (now work)) ⌝ }
     ensures { λ r. ⌜ r ≡ eqb (getD (now (work .entry)) (spansAt + id) 0) 0 ⌝ }
 {
     work[SPANS + id] == 0

@@ -20,14 +20,14 @@ use Rattle.member_table.specs.MemberTable.{membersIn, partAt}
 use Rattle.member_table.specs.TableInPart.{part-outside, kept-outside}
 use Rattle.ask_labels.specs.declared.Shelf.{Shelf}
 use Rattle.ask_labels.specs.LabelShelf.{Shelved}
-use Rattle.label_search.specs.LabelScanLaws.{table-agree}
-use Rattle.ask_labels.specs.LabelShelfLaws.{sets-few, shelved-agree}
+use Rattle.ask_labels.specs.LabelShelfLaws.{sets-few, room-agree, shelved-agree}
 use Rattle.collected_moves.specs.declared.Caps.{Caps}
 use Rattle.collected_moves.specs.declared.Running.{Running}
 use Rattle.collected_moves.specs.declared.Noted.{Noted}
 use Rattle.collected_moves.specs.declared.Noted.the-variants.{On, Over}
 use Rattle.collected_moves.specs.CollectedMoves.{membersOf, movesOf, Collecting, Grown, NotedOn, NoRoom}
-use Rattle.collected_moves.specs.CollectedLaws.{grown-refl, grown-trans, grown-same, agree-between, collecting-outside, outside-members-of, outside-moves-of}
+use Rattle.collected_moves.specs.CollectedLaws.{grown-refl, grown-trans}
+use Rattle.collected_moves.specs.CollectedFrames.{members-outside, moves-outside, collecting-outside, grown-outside}
 use Rattle.set_growth.specs.SetGrowth.{Growth, Sound, InSet, InHand, Gathered}
 use Rattle.set_growth.specs.SetGrowthLaws.{target-in-set, gathered-same, no-room-passes}
 use Rattle.threads_beside.specs.ThreadsBeside.{placed}
@@ -36,7 +36,7 @@ use Rattle.nodes_to_visit.specs.NodesToVisitLaws.{pending-same, pending-same-pa
 use Rattle.walk_state.specs.declared.Basis.{Basis}
 use Rattle.walk_state.specs.declared.Walk.{Walk}
 use Rattle.walk_state.specs.WalkState.{MemberFits, VisitFits, Entry, Walking, InReach, InReachBelow, Covering, OnSheet, Carried, TurnOn, TurnOver}
-use Rattle.work_layout.specs.WorkLayout.{workEnd, tableLength, movesAt, membersAt, marksAt, pendingAt, pendingEnd, headsAt, listsEnd}
+use Rattle.work_layout.specs.WorkLayout.{workEnd, tableLength, movesAt, membersAt, marksAt, pendingAt, pendingEnd, headsAt, listsEnd, setRoom}
 
 -- ---- several moves noted
 -- these moves are collected, with their targets, and no other move or member came in
@@ -143,6 +143,20 @@ module _ {v : List ℕ} {first : ℕ} {s : Running} {l : Caps} {ms : List Move} 
   pub all-over : r ≡ Over → NotedAllAs v first s l ms w r → AllPass v first s l ms w
   all-over e h = subst (NotedAllAs v first s l ms w) e h
 
+-- ---- the table of closures
+-- a sheet stays that of the slice where nothing is changed before the moves in hand
+pub grown-sheet : {rank : ℕ → ℕ} {b : Basis} {v w : List ℕ} {s : Walk} {g : Growth} {nodes : List Node} → Walking rank v b s
+    → SameOutside (movesAt + b .first) workEnd v w → OnSheet g nodes b v → OnSheet g nodes b w
+grown-sheet {b = b} {v} {w} k o h =
+    record {
+      sound = h .sound;
+      nodes-are = h .nodes-are;
+      node-count = h .node-count;
+      facts-are = h .facts-are;
+      closures =
+          closures-agree (h .closures) (λ i l. o .at i (inl (omega (arith, sets-few (b .facts) (k .shelf-room .few)))));
+    }
+
 -- ---- slices that agree on the places of entries have the same ones
 module _ (v w : List ℕ) (n : ℕ) (few : n ≤ 64)
     (same : (i : ℕ) → pendingAt ≤ i → i < pendingEnd → getD w i 0 ≡ getD v i 0) where
@@ -178,7 +192,7 @@ module _ {rank : ℕ → ℕ} {b : Basis} {v : List ℕ} {s : Walk} {ms : List M
   noted-pending : pendingIn w (s .top) ≡ pendingIn v (s .top)
   noted-pending = same-pending v w (s .top) (k .top) (λ i p q. n .inside .at i (inr (omega arith)))
 
-  noted-table : (i : ℕ) → i < 4096 → getD w i 0 ≡ getD v i 0
+  noted-table : (i : ℕ) → i < setRoom → getD w i 0 ≡ getD v i 0
   noted-table i l = n .inside .at i (inl (omega arith))
 
   -- all stays in order, where the moves are to members that fit
@@ -194,12 +208,7 @@ module _ {rank : ℕ → ℕ} {b : Basis} {v : List ℕ} {s : Walk} {ms : List M
             ⊎-elim (λ (y : List·Memᴰ m ms). fits m y .1) (λ (y : List·Memᴰ m (movesOf v (b .first) (s .running))). k .small m y)
             (n .moves-only m i);
         marks = kept-outside (n .inside) marksAt (s .marks) (inr (omega arith)) (k .marks);
-        shelf-room = record {
-          few = k .shelf-room .few;
-          table = table-agree w (k .shelf-room .table) (λ i u. noted-table i (omega (arith, sets-few (b .facts) (k .shelf-room .few))));
-          store = k .shelf-room .store;
-          long = omega (arith, k .shelf-room .long, n .inside .long);
-        };
+        shelf-room = room-agree (k .shelf-room) (n .inside .long) noted-table;
         shelved =
             shelved-agree v w (b .facts) (b .store) (k .shelf-room .few)
             (record { long = n .inside .long; table = noted-table; shelf = λ i l u. n .inside .at i (inr (omega arith)) })
@@ -285,11 +294,14 @@ abbrev pub reshelved : Walk → Shelf → Walk
 reshelved s q = record { running = s .running; shelf = q; marks = s .marks; top = s .top }
 
 module _ {rank : ℕ → ℕ} {b : Basis} {v u : List ℕ} {s : Walk} (q : Shelf) (k : Walking rank v b s) (o : SameOutside headsAt listsEnd v u) where
+  moves-below : movesAt + s .running .moves ≤ headsAt
+  moves-below = omega (arith, k .collecting .room, k .collecting .caps)
+
   shelf-members : membersOf u (s .running) ≡ membersOf v (s .running)
-  shelf-members = outside-members-of v u (b .first) (s .running) (b .caps) (k .collecting) (inl (omega arith)) o
+  shelf-members = members-outside o (inl (omega arith)) (s .running .members)
 
   shelf-moves : movesOf u (b .first) (s .running) ≡ movesOf v (b .first) (s .running)
-  shelf-moves = outside-moves-of v u (b .first) (s .running) (b .caps) (k .collecting) (inl (omega arith)) o
+  shelf-moves = moves-outside o (inl (omega arith)) (b .first) (s .running) (inl moves-below)
 
   shelf-pending : pendingIn u (s .top) ≡ pendingIn v (s .top)
   shelf-pending = same-pending v u (s .top) (k .top) (λ i x y. o .at i (inl (omega arith)))
@@ -297,44 +309,28 @@ module _ {rank : ℕ → ℕ} {b : Basis} {v u : List ℕ} {s : Walk} (q : Shelf
   shelf-marks : partAt u marksAt ≡ partAt v marksAt
   shelf-marks = part-outside o marksAt (inl (omega arith))
 
-  first-low : b .first ≤ 4096
-  first-low = omega (arith, k .collecting .room, k .collecting .caps)
+  first-low : movesAt + b .first ≤ headsAt
+  first-low = omega (arith, moves-below, k .collecting .room)
 
   shelf-grown : Grown v (b .first) (s .running) u (s .running)
   shelf-grown =
-      grown-same v u (b .first) (s .running) (b .caps) (k .collecting) (o .long) (agree-between (b .first) (inl (omega arith)) o)
-      (outside-wider o (movesAt + b .first) workEnd (omega (arith, first-low)) (omega arith))
+      grown-outside o (inl (omega arith)) (b .first) (s .running) (inl moves-below) first-low (omega arith)
 
   pub shelf-walking : Shelved u (b .facts) (b .store) q → Walking rank u b (reshelved s q)
   shelf-walking shelved =
       record {
-        collecting = collecting-outside v u (b .first) (s .running) (b .caps) (k .collecting) (inl (omega arith)) o;
+        collecting = collecting-outside o (inl (omega arith)) (b .first) (s .running) (inl moves-below) (k .collecting);
         fit = λ x m. k .fit x (subst (List·Memᴰ x) shelf-members m);
         small = λ x m. k .small x (subst (List·Memᴰ x) shelf-moves m);
         marks = kept-outside o marksAt (s .marks) (inl (omega arith)) (k .marks);
-        shelf-room = record {
-          few = k .shelf-room .few;
-          table =
-              table-agree u (k .shelf-room .table)
-              (λ i l. o .at i (inl (omega (arith, sets-few (b .facts) (k .shelf-room .few)))));
-          store = k .shelf-room .store;
-          long = omega (arith, k .shelf-room .long, o .long);
-        };
+        shelf-room = room-agree (k .shelf-room) (o .long) (λ i l. o .at i (inl (omega arith)));
         shelved = shelved;
         top = k .top;
         entries = λ i l. same-entry v u (s .top) (k .top) (λ j x y. o .at j (inl (omega arith))) i l (k .entries i l);
       }
 
   shelf-sheet : {g : Growth} {nodes : List Node} → OnSheet g nodes b v → OnSheet g nodes b u
-  shelf-sheet h =
-      record {
-        sound = h .sound;
-        nodes-are = h .nodes-are;
-        node-count = h .node-count;
-        facts-are = h .facts-are;
-        closures =
-            closures-agree (h .closures) (λ i l. o .at i (inl (omega (arith, sets-few (b .facts) (k .shelf-room .few)))));
-      }
+  shelf-sheet h = grown-sheet k (shelf-grown .outside) h
 
   module _ (g : Growth) (extra : List NodeBeside) where
     shelf-reach : (m : Move) → InReach g b v s extra m → InReach g b u (reshelved s q) extra m

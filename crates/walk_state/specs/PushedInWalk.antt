@@ -22,8 +22,7 @@ use Rattle.node_moves.specs.NodeMoves.{NodeBeside, placedMoves}
 use Rattle.node_moves.specs.ThreadLaws.{sort-append-length}
 use Rattle.member_table.specs.MemberTable.{membersIn, partAt}
 use Rattle.member_table.specs.TableInPart.{part-outside, kept-outside}
-use Rattle.label_search.specs.LabelScanLaws.{table-agree}
-use Rattle.ask_labels.specs.LabelShelfLaws.{sets-few, SameShelf, shelved-agree}
+use Rattle.ask_labels.specs.LabelShelfLaws.{room-agree, SameShelf, shelved-agree}
 use Rattle.collected_moves.specs.CollectedMoves.{Grown, membersOf, movesOf}
 use Rattle.collected_moves.specs.CollectedFrames.{members-outside, moves-outside, collecting-outside, grown-outside}
 use Rattle.set_growth.specs.SetGrowth.{Growth, InHand}
@@ -34,7 +33,7 @@ use Rattle.nodes_to_visit.specs.NodesToVisitLaws.{pushed-below, pushed-packed, 
 use Rattle.walk_state.specs.declared.Basis.{Basis}
 use Rattle.walk_state.specs.declared.Walk.{Walk}
 use Rattle.walk_state.specs.WalkState.{NodesOf, ThreadsFit, VisitFits, Entry, marksOf, Walking, InReach, InReachBelow, Covering, Carried, TurnOn}
-use Rattle.work_layout.specs.WorkLayout.{movesAt, marksAt, pendingAt, pendingEnd}
+use Rattle.work_layout.specs.WorkLayout.{movesAt, marksAt, pendingAt, pendingEnd, setRoom}
 
 -- ---- threads that fit
 -- each thread of one of the nodes is one of them
@@ -190,21 +189,21 @@ module _ {rank : ℕ → ℕ} {v : List ℕ} {s : Walk} {x : NodeBeside} where
 
 pub entered-added : {rank : ℕ → ℕ} {v w : List ℕ} {s : Walk} {n next : ℕ} {x : NodeBeside} → s .top < 64 → Entered rank v (s .top) n x w next
     → NodesAdded rank v s (x ∷ []) w (topped s next)
-entered-added l (there i h e) = entered-there i h e
+entered-added l (there i h e a) = entered-there i h e
 entered-added l (put k p) = entered-put k l p
 
 -- there is at most one more, and all have numbers that stand for nodes
 pub entered-few : {rank : ℕ → ℕ} {v w : List ℕ} {top n next : ℕ} {x : NodeBeside} → Entered rank v top n x w next → next ≤ top + 1
-entered-few (there i h e) = omega arith
+entered-few (there i h e a) = omega arith
 entered-few (put k p) = omega arith
 
 pub entered-long : {rank : ℕ → ℕ} {v w : List ℕ} {top n next : ℕ} {x : NodeBeside} → Entered rank v top n x w next → length w ≡ length v
-entered-long (there i h e) = refl
+entered-long (there i h e a) = refl
 entered-long (put k p) = p .outside .long
 
 pub entered-packed : {rank : ℕ → ℕ} {v w : List ℕ} {top n next : ℕ} {x : NodeBeside} → ((i : ℕ) → i < top → PendingPacked v i)
     → Entered rank v top n x w next → (i : ℕ) → i < next → PendingPacked w i
-entered-packed f (there k h e) i l = f i l
+entered-packed f (there k h e a) i l = f i l
 entered-packed f (put k p) i l = p .packed i (omega arith)
 
 -- some nodes and then others
@@ -246,7 +245,7 @@ module _ {rank : ℕ → ℕ} {b : Basis} {v w : List ℕ} {s : Walk} (k : Walki
       grown-outside same (inl (omega arith)) (b .first) (s .running) (inl moves-below) (omega (arith, moves-below, k .collecting .room .1))
       (omega arith)
 
-  same-table : (i : ℕ) → i < 4096 → getD w i 0 ≡ getD v i 0
+  same-table : (i : ℕ) → i < setRoom → getD w i 0 ≡ getD v i 0
   same-table i l = same .at i (inl (omega arith))
 
   same-shelf : SameShelf v w
@@ -260,12 +259,7 @@ module _ {rank : ℕ → ℕ} {b : Basis} {v w : List ℕ} {s : Walk} (k : Walki
         fit = λ x m. k .fit x (subst (List·Memᴰ x) stored-members m);
         small = λ x m. k .small x (subst (List·Memᴰ x) stored-moves m);
         marks = kept-outside same marksAt (s .marks) (inl (omega arith)) (k .marks);
-        shelf-room = record {
-          few = k .shelf-room .few;
-          table = table-agree w (k .shelf-room .table) (λ i u. same-table i (omega (arith, sets-few (b .facts) (k .shelf-room .few))));
-          store = k .shelf-room .store;
-          long = omega (arith, k .shelf-room .long, same .long);
-        };
+        shelf-room = room-agree (k .shelf-room) (same .long) same-table;
         shelved = shelved-agree v w (b .facts) (b .store) (k .shelf-room .few) same-shelf (s .shelf) (k .shelved);
         top = l;
         entries = entries;
@@ -308,7 +302,7 @@ pushed-walking {rank} {b} {v} {w} {s} {e} k p fit low =
 -- a node that fits is among those to visit, the ones above it have ranks below n, and there is room above n
 pub entered-walking : {rank : ℕ → ℕ} {b : Basis} {v w : List ℕ} {s : Walk} {n next : ℕ} {x : NodeBeside} → Walking rank v b s → VisitFits b x → rank (x .node) < n
     → n + s .top ≤ 64 → Entered rank v (s .top) n x w next → Walking rank w b (topped s next)
-entered-walking k fit low room (there i h e) = k
+entered-walking k fit low room (there i h e a) = k
 entered-walking {rank} {b} {v} {w} {s} {n} {next} {x} kw fit low room (put k p) =
     stored-walking kw (p .outside) (s .top + 1) (omega arith) (λ i l. go i l (ltb i k) refl (eqb i k) refl)
   where
@@ -331,7 +325,7 @@ entered-walking {rank} {b} {v} {w} {s} {n} {next} {x} kw fit low room (put k p) 
         let d : i - 1 + 1 ≡ i = omega (arith, ltb-false i k t, eqb-false i k q) in
         let up = p .above (i - 1) a c in
         let same : pendingOne w i ≡ pendingOne v (i - 1) = ap (pendingOne w) (sym d) ∙ up .0 in
-        let h = up .1 in
+        let h = up .1 .low in
         record {
           packed = p .packed i (omega arith);
           fits = subst (VisitFits b) (sym same) (kw .entries (i - 1) c .fits);

@@ -11,10 +11,12 @@ use Rattle.sheets.specs.Sheet.{Node, tell, ask, Configuration, nodeOf, opened}
 use Rattle.sheet_laws.specs.Ranks.{Ranked}
 use Rattle.moves.specs.Orders.{Move}
 use Rattle.moves.specs.Moves.{moves}
+use Rattle.sheet_types.specs.NodeTable.{nodesOf, openedOf, movablesOf}
+use Rattle.sheet_types.specs.HeldSheet.{nodesIn, openedIn}
 use Rattle.node_moves.specs.NodeMoves.{NodeBeside, placedMoves}
 use Rattle.comparison.specs.Promise.{PassesLimit}
 use Rattle.closure_table.specs.ClosureTable.{Closures}
-use Rattle.movable_nodes.specs.Movability.{nodesHeld, MovableHeld}
+use Rattle.movable_nodes.specs.Movability.{MovableHeld}
 use Rattle.member_table.specs.MemberTable.{membersIn, partAt, Kept}
 use Rattle.ask_labels.specs.LabelShelf.{ShelfRoom, Shelved}
 use Rattle.collected_moves.specs.declared.Caps.{Caps}
@@ -28,16 +30,17 @@ use Rattle.walk_state.specs.declared.Walk.{Walk}
 use Rattle.walk_state.specs.declared.Walked.{Walked}
 use Rattle.walk_state.specs.declared.Walked.the-variants.{On, Over}
 use Rattle.work_layout.specs.WorkLayout.{workEnd, movesAt, marksAt}
+use Rattle.sheets.specs.SheetLimits.{maxNodes, maxThreads}
 
 -- ---- what is lent of the sheet: its nodes by number, the threads that each opens to, and which can move
-pub record NodesLent (rank : ℕ → ℕ) (kinds firsts seconds counts threads movables : List ℕ) (b : Basis) : Type 0 where
-  pub few : b .nodes ≤ 64
-  pub ranked : Ranked rank (nodesHeld kinds firsts seconds (b .nodes))
-  pub told : (k c : ℕ) → k < b .nodes → nodeOf (nodesHeld kinds firsts seconds (b .nodes)) k ≡ tell c → c < 2 ^ b .facts
-  pub asked : (k c q : ℕ) → k < b .nodes → nodeOf (nodesHeld kinds firsts seconds (b .nodes)) k ≡ ask c q → (c < 2 ^ b .facts) × (q < b .nodes)
-  pub opens : (k : ℕ) → k < b .nodes → take (getD counts k 0) (drop (8 * k) threads) ≡ opened (nodesHeld kinds firsts seconds (b .nodes)) k
-  pub few-threads : (k : ℕ) → k < b .nodes → getD counts k 0 ≤ 8
-  pub movable : MovableHeld (nodesHeld kinds firsts seconds (b .nodes)) (b .nodes) movables
+pub record NodesLent (rank : ℕ → ℕ) (table : List ℕ) (b : Basis) : Type 0 where
+  pub few : b .nodes ≤ maxNodes
+  pub ranked : Ranked rank (nodesIn (nodesOf table) (b .nodes))
+  pub told : (k c : ℕ) → k < b .nodes → nodeOf (nodesIn (nodesOf table) (b .nodes)) k ≡ tell c → c < 2 ^ b .facts
+  pub asked : (k c q : ℕ) → k < b .nodes → nodeOf (nodesIn (nodesOf table) (b .nodes)) k ≡ ask c q → (c < 2 ^ b .facts) × (q < b .nodes)
+  pub opens : (k : ℕ) → k < b .nodes → openedIn (openedOf table) k ≡ opened (nodesIn (nodesOf table) (b .nodes)) k
+  pub few-threads : (k : ℕ) → k < b .nodes → getD (openedOf table .counts) k 0 ≤ maxThreads
+  pub movable : MovableHeld (nodesIn (nodesOf table) (b .nodes)) (b .nodes) (movablesOf table)
 
 -- the nodes of a sheet with this basis: so many, and ranked
 pub record NodesOf (rank : ℕ → ℕ) (b : Basis) (nodes : List Node) : Type 0 where

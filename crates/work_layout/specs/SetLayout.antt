@@ -12,7 +12,7 @@ use Rattle.moves.specs.Orders.{Move}
 use Rattle.moves.specs.Moves.{moves}
 use Rattle.packing.specs.declared.Numbers.{Numbers}
 use Rattle.packing.specs.Packing.{unpacked, Packed}
-use Rattle.work_layout.specs.WorkLayout.{spansAt, movesAt, membersAt, workEnd}
+use Rattle.work_layout.specs.WorkLayout.{spansAt, movesAt, membersAt, workEnd, memberRoom, moveRoom}
 
 -- the three numbers of the member at place i
 abbrev pub numbersAt : List ℕ → ℕ → Numbers
@@ -52,7 +52,7 @@ movesHeldAt w i = map (moveFrom w) (moveNumbersAt w i)
 -- A set stands in the slice: its n members whole and in order, m moves together, those of each member whole and in order.
 pub record SetHeld (sheet : Sheet) (set : List Configuration) (w : List ℕ) (n m : ℕ) : Type 0 where
   pub long : workEnd ≤ length w
-  pub few : (n ≤ 512) × (m ≤ 4096)
+  pub few : (n ≤ memberRoom) × (m ≤ moveRoom)
   pub members : setIn w n ≡ set
   pub packed : (i : ℕ) → i < n → Packed (getD w (membersAt + 3 * i) 0) (getD w (membersAt + 3 * i + 1) 0) (getD w (membersAt + 3 * i + 2) 0)
   pub spans : (i : ℕ) → i < n → firstMove w i + moveTotal w i ≤ m

@@ -1,5 +1,6 @@
 -- Where everything stands in the work slice, phase by phase. src/lib.rt has the same numbers for the code.
-use Prim.Native.Nat.{ℕ, _+_, _*_}
+use Prim.Native.Nat.{ℕ, _+_, _*_, _^_}
+use Rattle.sheets.specs.SheetLimits.{maxFacts}
 use Rattle.comparison.specs.CallLimits.{workLength}
 
 -- numbers in the work slice that are used
@@ -12,6 +13,10 @@ memberRoom = 512
 
 abbrev pub moveRoom : ℕ
 moveRoom = 4096
+
+-- sets of facts whose closures there is room for
+abbrev pub setRoom : ℕ
+setRoom = 2 ^ maxFacts
 
 -- ---- a table of members: three numbers for each by discovery, then ids in ascending order of what they stand for
 -- where the ids begin in it

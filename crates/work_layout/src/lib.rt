@@ -3,8 +3,8 @@
 use packing::Numbers;
 ghost use mathlib.Core.Path.{_≡_};
 ghost use Prim.Native.Nat.{_≤_};
-ghost use lib.ListN.{length};
-ghost use Rattle.work_layout.specs.WorkLayout.{workEnd};
+ghost use lib.ListN.{length, replicate};
+ghost use Rattle.work_layout.specs.WorkLayout.{workEnd, memberRoom};
 ghost use Rattle.work_layout.specs.SetLayout.{memberAt, numbersAt, firstMove, moveTotal};
 ghost use Rattle.comparison.specs.Outcome.{cleared};
 ghost use Rattle.work_layout.specs.ClassLayout.{classIn};
@@ -78,14 +78,14 @@ pub const NONE: u32 = 65535;
 
 // Where the moves of the member at place i begin, and how many there are.
 pub fn first_move(work: &[u32], i: usize) -> usize
-    requires { ⌜ (i ≤ 512) × (workEnd ≤ length (now work)) ⌝ }
+    requires { ⌜ (i ≤ memberRoom) × (workEnd ≤ length (now work)) ⌝ }
     ensures { λ r. ⌜ r ≡ firstMove (now (work .entry)) i ⌝ }
 {
     (work[SPANS + i] / 65536) as usize
 }
 
 pub fn move_total(work: &[u32], i: usize) -> usize
-    requires { ⌜ (i ≤ 512) × (workEnd ≤ length (now work)) ⌝ }
+    requires { ⌜ (i ≤ memberRoom) × (workEnd ≤ length (now work)) ⌝ }
     ensures { λ r. ⌜ r ≡ moveTotal (now (work .entry)) i ⌝ }
 {
     (work[SPANS + i] % 65536) as usize
@@ -93,7 +93,7 @@ pub fn move_total(work: &[u32], i: usize) -> usize
 
 // The numbers of the member at place i.
 pub fn key_at(work: &[u32], i: usize) -> Numbers
-    requires { ⌜ (i ≤ 512) × (workEnd ≤ length (now work)) ⌝ }
+    requires { ⌜ (i ≤ memberRoom) × (workEnd ≤ length (now work)) ⌝ }
     ensures { λ r. ⌜ r ≡ numbersAt (now (work .entry)) i ⌝ }
 {
     Numbers {
@@ -104,22 +104,22 @@ pub fn key_at(work: &[u32], i: usize) -> Numbers
 }
 
 pub fn store_at(work: &[u32], i: usize) -> u32
-    requires { ⌜ (i ≤ 512) × (workEnd ≤ length (now work)) ⌝ }
+    requires { ⌜ (i ≤ memberRoom) × (workEnd ≤ length (now work)) ⌝ }
     ensures { λ r. ⌜ r ≡ memberAt (now (work .entry)) i .store ⌝ }
 {
     work[MEMBERS + 3 * i] / 256
 }
 
 pub fn class_at(work: &[u32], i: usize) -> u32
-    requires { ⌜ (i ≤ 512) × (workEnd ≤ length (now work)) ⌝ }
+    requires { ⌜ (i ≤ memberRoom) × (workEnd ≤ length (now work)) ⌝ }
     ensures { λ r. ⌜ r ≡ classIn (now (work .entry)) i ⌝ }
 {
     work[CLASSES + i]
 }
 
-// A work slice.
+// A work slice, every number of which is 0.
 pub fn work_room() -> [u32; WORK_END]
-    ensures { λ r. ⌜ 16384 ≡ length r ⌝ }
+    ensures { λ r. ⌜ r ≡ replicate workEnd 0 ⌝ }
 {
     [0; WORK_END]
 }

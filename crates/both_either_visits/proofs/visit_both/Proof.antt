@@ -14,7 +14,7 @@ push-beside-requires c κs =
     let o = c .before .before in
     let a = o .args in
     let h = o .pre in
-    let eight : length (a .e .threads) ≡ 8 = length-unmapped ℕ (a .e .threads) 8 (o .good .1 .1 .1 .1 .1 .1 .1 .0 .1 .1 .1 .1 .0 .1 .0 .1) in
+    let eight : length (a .e .threads) ≡ 8 = length-unmapped ℕ (a .e .threads) 8 (o .good .1 .1 .1 .1 .1 .0 .1 .1 .1 .1 .0 .1 .0 .1) in
     let n : length (take (a .e .count) (a .e .threads)) ≡ a .e .count = simp length-take (omega (arith, h .2)) in
     let few = h .1 .threads .few in
     let top = h .5 in (
@@ -46,7 +46,7 @@ returns c =
     let a = o .args in
     let h = o .pre in
     let x = first .push-beside in
-    both-first-over (a .counts .now) (a .threads .now) (a .movables .now) (a .p) (a .q) (a .b) (a .work .now) (a .s) (nodeBeside (a .e))
+    both-first-over (a .table .now) (a .p) (a .q) (a .b) (a .work .now) (a .s) (nodeBeside (a .e))
     (h .0) (h .1) (h .3) (h .4) (h .5) (x .last .0) (x .result) (c .enum-told .given .1) (x .ensures)
 
 push-beside-requires-2 : tie.Need-push-beside-requires-2
@@ -56,12 +56,12 @@ push-beside-requires-2 c κs =
     let o = first .before .before .before in
     let a = o .args in
     let h = o .pre in
-    let eight : length (a .e .threads) ≡ 8 = length-unmapped ℕ (a .e .threads) 8 (o .good .1 .1 .1 .1 .1 .1 .1 .0 .1 .1 .1 .1 .0 .1 .0 .1) in
+    let eight : length (a .e .threads) ≡ 8 = length-unmapped ℕ (a .e .threads) 8 (o .good .1 .1 .1 .1 .1 .0 .1 .1 .1 .1 .0 .1 .0 .1) in
     let n : length (take (a .e .count) (a .e .threads)) ≡ a .e .count = simp length-take (omega (arith, h .2)) in
     let few = h .1 .threads .few in
     let x = first .push-beside in
     let r = on .r .given in
-    let m = both-room (a .counts .now) (a .threads .now) (a .movables .now) (a .p) (a .q) (a .b) (a .work .now) (a .s) (nodeBeside (a .e))
+    let m = both-room (a .table .now) (a .p) (a .q) (a .b) (a .work .now) (a .s) (nodeBeside (a .e))
     (h .0) (h .1) (h .3) (h .4) (h .5) (x .last .0) (r .0 .0) (x .result) (r .1) (x .ensures) in (
       omega (arith, h .3 .inside, h .6),
       omega (arith, h .4 .inside, h .6),
@@ -89,7 +89,7 @@ returns-2 c =
     let x = first .push-beside in
     let r = on .r .given in
     let y = second .push-beside2 in
-    both-then (a .counts .now) (a .threads .now) (a .movables .now) (a .p) (a .q) (a .b) (a .work .now) (a .s) (nodeBeside (a .e))
+    both-then (a .table .now) (a .p) (a .q) (a .b) (a .work .now) (a .s) (nodeBeside (a .e))
     (h .0) (h .1) (h .3) (h .4) (h .5) (x .last .0) (r .0 .0) (x .result) (r .1) (x .ensures) (y .last .0) (y .result) (y .ensures)
 
 pub visit-both-spec : {M : Type 1} → statement M

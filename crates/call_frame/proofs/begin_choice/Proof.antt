@@ -50,7 +50,7 @@ begin-set-requires c κs =
     let are = seeds-stored (args .sheet .starts) (seeds .result) (args .left) (args .right) (omega (arith, seeds .ok)) (seeds .ensures) in (
       start .pre .0,
       choice .admissible,
-      choice .opened,
+      choice .table,
       record {
         few = omega arith;
         of-sheet = seeds-of-sheet (args .sheet) (args .left) (args .right) choice (seeds .result) are;

@@ -26,8 +26,8 @@ returns c =
     let l = c .before .before .before .loop in
     record {
       within = (l .inv .0, l .inv .1);
-      found = λ h. c .before .is-part .ensures .holds (c .if1 .taken);
-      none = λ e. absurd (omega (arith, c .before .before .loop-test .taken));
+      passed = l .inv .2;
+      here = λ h. c .before .is-part .ensures .holds (c .if1 .taken);
     }
 
 add-k : tie.Need-add-k Inv-loop μ-loop
@@ -51,8 +51,8 @@ returns-2 c =
     let l = c .before .loop in
     record {
       within = (omega arith, omega arith);
-      found = λ h. absurd (omega arith);
-      none = λ e j h m. l .inv .2 j h (omega arith);
+      passed = λ j h m. l .inv .2 j h (omega arith);
+      here = λ h. absurd (omega arith);
     }
 
 pub part-of-spec : {M : Type 1} → statement M

@@ -13,6 +13,7 @@ use Rattle.conclusion_passes.specs.GatheredConclusions.{ConclusionsGathered}
 use Rattle.conclusion_passes.specs.GatheredLaws.{entry-grown, entry-fits, gathered-put}
 use Rattle.closure_filling.proofs.fill_by_passes.Statement.{statement}
 use Rattle.closure_filling.proofs.fill_by_passes.Tie as tie
+use Rattle.sheets.specs.SheetLimits.{maxFacts}
 
 abbrev Inv-loop : tie.InvT-loop
 Inv-loop rules n facts table₀ set₀ table set =
@@ -71,7 +72,7 @@ cast-work-2 c =
     let start = start-of-gather (gather-of-at-loop at-loop) in
     let l = at-loop .loop in
     let a = start .args in
-    let few : 2 ^ a .facts ≤ 4096 = omega arith in
+    let few : 2 ^ a .facts ≤ 2 ^ maxFacts = omega arith in
     let s = l .set - 1 in
     let fits : bitOr s (getD (l .work) s 0) < 2 ^ a .facts =
     entry-fits (rulesIn (a .rules .now) (a .n)) (a .facts) (l .inv .3 .at s (omega arith)) (omega arith) (start .pre .3) in
@@ -83,7 +84,7 @@ mul-work-2 c =
     let start = start-of-gather (gather-of-at-loop at-loop) in
     let l = at-loop .loop in
     let a = start .args in
-    let few : 2 ^ a .facts ≤ 4096 = omega arith in
+    let few : 2 ^ a .facts ≤ 2 ^ maxFacts = omega arith in
     let s = l .set - 1 in
     let fits : bitOr s (getD (l .work) s 0) < 2 ^ a .facts =
     entry-fits (rulesIn (a .rules .now) (a .n)) (a .facts) (l .inv .3 .at s (omega arith)) (omega arith) (start .pre .3) in
@@ -96,7 +97,7 @@ slice-read-work c =
     let start = start-of-gather at-gather in
     let l = at-loop .loop in
     let a = start .args in
-    let few : 2 ^ a .facts ≤ 4096 = omega arith in
+    let few : 2 ^ a .facts ≤ 2 ^ maxFacts = omega arith in
     let s = l .set - 1 in
     let fits : bitOr s (getD (l .work) s 0) < 2 ^ a .facts =
     entry-fits (rulesIn (a .rules .now) (a .n)) (a .facts) (l .inv .3 .at s (omega arith)) (omega arith) (start .pre .3) in
@@ -117,7 +118,7 @@ loop-again c =
     let start = start-of-gather (gather-of-at-loop at-loop) in
     let l = at-loop .loop in
     let a = start .args in
-    let few : 2 ^ a .facts ≤ 4096 = omega arith in
+    let few : 2 ^ a .facts ≤ 2 ^ maxFacts = omega arith in
     let s = l .set - 1 in
     let fits : bitOr s (getD (l .work) s 0) < 2 ^ a .facts =
     entry-fits (rulesIn (a .rules .now) (a .n)) (a .facts) (l .inv .3 .at s (omega arith)) (omega arith) (start .pre .3) in

@@ -6,6 +6,7 @@ use borrow.Author.Needs.{needs}
 use mathlib.Core.Path.{_≡_}
 use Rattle.closure_table.proofs.sets_of.Statement.{statement}
 use Rattle.closure_table.proofs.sets_of.Tie as tie
+use Rattle.sheets.specs.SheetLimits.{maxFacts}
 
 shl-result : tie.Need-shl-result
 shl-result c = search needs
@@ -13,7 +14,7 @@ shl-result c = search needs
 returns : tie.Need-returns
 returns c =
     let n = c .args .facts in
-    let few : 2 ^ n ≤ 2 ^ 12 = pow-mono {i = n} {j = 12} (omega arith) in
+    let few : 2 ^ n ≤ 2 ^ maxFacts = pow-mono {i = n} {j = maxFacts} (omega arith) in
     let exact : (1 * 2 ^ n) % 2 ^ 64 ≡ 1 * 2 ^ n = shl-exact {a = 1} 1 n 64 (omega arith) (omega arith) in
     (omega (arith, exact), omega (arith, exact, few))
 

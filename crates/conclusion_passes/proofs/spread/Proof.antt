@@ -3,13 +3,14 @@ use borrow.Author.Needs.{needs}
 use native.Mathlib.Omega.{arith}
 use Prim.Native.Nat.{_-_, _*_, _^_, _≤_}
 use mathlib.Core.Path.{_≡_}
-use Rattle.conclusion_passes.specs.GatheredConclusions.{United, Spread}
-use Rattle.conclusion_passes.specs.GatheredLaws.{spread-none, spread-next, block-fits}
+use Rattle.conclusion_passes.specs.GatheredConclusions.{United, BlocksSpread}
+use Rattle.conclusion_passes.specs.GatheredLaws.{blocks-none, blocks-next, blocks-all, block-fits}
 use Rattle.conclusion_passes.proofs.spread.Statement.{statement}
 use Rattle.conclusion_passes.proofs.spread.Tie as tie
+use Rattle.sheets.specs.SheetLimits.{maxFacts}
 
 abbrev Inv-loop : tie.InvT-loop
-Inv-loop table₀ blocks fact half q₀ table q = (q ≤ blocks) × Spread fact (2 * q * 2 ^ fact) table₀ table
+Inv-loop table₀ blocks fact half q₀ table q = BlocksSpread fact blocks q table₀ table
 
 abbrev μ-loop : tie.MeasureT-loop
 μ-loop table₀ blocks fact half q₀ table q = blocks - q
@@ -29,7 +30,7 @@ sets-of-requires : tie.Need-sets-of-requires Inv-loop μ-loop
 sets-of-requires c κs = search needs
 
 loop-holds : tie.Need-loop-holds Inv-loop μ-loop
-loop-holds c = (search needs, spread-none (c .before .before .args .fact) (c .before .before .args .work .now))
+loop-holds c = blocks-none
 
 mul-spread-block : tie.Need-mul-spread-block Inv-loop μ-loop
 mul-spread-block c = search needs
@@ -38,7 +39,7 @@ mul-spread-block-2 : tie.Need-mul-spread-block-2 Inv-loop μ-loop
 mul-spread-block-2 c =
     let a = c .before .before .before .before .before .args in
     let e : c .before .before .before .sets-of .result ≡ 2 ^ a .fact = omega arith in
-    let h : 2 * c .before .before .loop .q * c .before .before .before .sets-of .result ≤ 4096 =
+    let h : 2 * c .before .before .loop .q * c .before .before .before .sets-of .result ≤ 2 ^ maxFacts =
     rw e (omega (arith, block-fits {blocks = a .blocks} (a .fact) (c .before .loop-test .taken))) in
     search needs
 
@@ -47,7 +48,7 @@ spread-block-requires c κs =
     let a = c .before .before .before .before .before .args in
     let e : c .before .before .before .sets-of .result ≡ 2 ^ a .fact = omega arith in
     let f = block-fits {blocks = a .blocks} (a .fact) (c .before .loop-test .taken) in
-    rw e (omega (arith, c .before .before .loop .inv .1 .long), omega arith)
+    rw e (omega (arith, c .before .before .loop .inv .spread .long), omega arith)
 
 add-q : tie.Need-add-q Inv-loop μ-loop
 add-q c = search needs
@@ -65,15 +66,13 @@ loop-again c =
     let e : at-sets-of .sets-of .result ≡ 2 ^ a .fact = omega arith in
     let u : United (2 * l .q * 2 ^ a .fact) (2 ^ a .fact) (2 ^ a .fact) (l .work) (at-spread-block .spread-block .last .0) =
     rw e at (at-spread-block .spread-block .ensures) in
-    (search needs, spread-next (a .fact) (l .q) (a .work .now) (l .work) (at-spread-block .spread-block .last .0) (l .inv .1) u)
+    blocks-next (l .inv) (at-spread-block .before .before .loop-test .taken) u
 
 same-length : tie.Need-same-length Inv-loop μ-loop
 same-length c = search needs
 
 returns : tie.Need-returns Inv-loop μ-loop
-returns c =
-    let e : c .before .loop .q ≡ c .before .before .before .before .args .blocks = omega arith in
-    rw e at (c .before .loop .inv .1)
+returns c = blocks-all (c .before .loop .inv) (omega arith)
 
 pub spread-spec : {M : Type 1} → statement M
 spread-spec =

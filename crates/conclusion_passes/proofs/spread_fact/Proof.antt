@@ -6,13 +6,14 @@ use mathlib.Core.Path.{_≡_}
 use borrow.Author.Needs.{needs}
 use Rattle.conclusion_passes.proofs.spread_fact.Statement.{statement}
 use Rattle.conclusion_passes.proofs.spread_fact.Tie as tie
+use Rattle.sheets.specs.SheetLimits.{maxFacts}
 
 spread-pairs-requires : tie.Need-spread-pairs-requires
 spread-pairs-requires c κs =
     let a = c .before .before .before in
     let e : a .args .fact ≡ 0 = c .before .match .keys1 in
     let h : 2 * a .args .blocks * 2 ^ 0 ≤ length (a .args .work .now) = rw e at (a .pre .2) in
-    let k : 2 * a .args .blocks * 2 ^ 0 ≤ 4096 = rw e at (a .pre .3) in
+    let k : 2 * a .args .blocks * 2 ^ 0 ≤ 2 ^ maxFacts = rw e at (a .pre .3) in
     (omega arith, omega arith)
 
 spread-fours-requires : tie.Need-spread-fours-requires
@@ -20,7 +21,7 @@ spread-fours-requires c κs =
     let a = c .before .before .before in
     let e : a .args .fact ≡ 1 = c .before .match .keys2 in
     let h : 2 * a .args .blocks * 2 ^ 1 ≤ length (a .args .work .now) = rw e at (a .pre .2) in
-    let k : 2 * a .args .blocks * 2 ^ 1 ≤ 4096 = rw e at (a .pre .3) in
+    let k : 2 * a .args .blocks * 2 ^ 1 ≤ 2 ^ maxFacts = rw e at (a .pre .3) in
     (omega arith, omega arith)
 
 spread-requires : tie.Need-spread-requires

@@ -1,24 +1,22 @@
 -- The blocks before the q-th are spread, and those from it on are as they were.
-use lib.ListN.{length, getD, set, length-set}
-use lib.Bits.{bitOr}
-use mathlib.Core.List.{List}
-use Rattle.conclusion_passes.specs.GatheredConclusions.{Spread}
-use Rattle.conclusion_passes.specs.GatheredLaws.{spread-none, spread-next, four-united}
 use borrow.Author.Needs.{needs}
 use native.Mathlib.Omega.{arith}
-use Prim.Native.Nat.{ℕ, _+_, _-_, _*_, _^_, _≤_}
-use mathlib.Core.Path.{_≡_, refl, subst}
+use Prim.Native.Nat.{_-_}
+use mathlib.Core.Path.{refl}
+use lib.ListN.{length-set}
+use Rattle.conclusion_passes.specs.GatheredConclusions.{BlocksSpread}
+use Rattle.conclusion_passes.specs.GatheredLaws.{blocks-none, blocks-next, blocks-all, four-united}
 use Rattle.conclusion_passes.proofs.spread_fours.Statement.{statement}
 use Rattle.conclusion_passes.proofs.spread_fours.Tie as tie
 
 abbrev Inv-loop : tie.InvT-loop
-Inv-loop table₀ blocks q₀ table q = (q ≤ blocks) × (length table ≡ length table₀) × Spread 1 (2 * q * 2 ^ 1) table₀ table
+Inv-loop table₀ blocks q₀ table q = BlocksSpread 1 blocks q table₀ table
 
 abbrev μ-loop : tie.MeasureT-loop
 μ-loop table₀ blocks q₀ table q = blocks - q
 
 loop-holds : tie.Need-loop-holds Inv-loop μ-loop
-loop-holds c = (omega arith, refl, spread-none 1 (c .args .work .now))
+loop-holds c = blocks-none
 
 mul-work : tie.Need-mul-work Inv-loop μ-loop
 mul-work c = search needs
@@ -63,7 +61,7 @@ mul-work-8 : tie.Need-mul-work-8 Inv-loop μ-loop
 mul-work-8 c = search needs
 
 slice-read-work-3 : tie.Need-slice-read-work-3 Inv-loop μ-loop
-slice-read-work-3 c = simp length-set (omega (arith, c .before .before .before .before .before .pre .1, c .before .before .before .before .loop .inv .1, c .before .before .before .loop-test .taken))
+slice-read-work-3 c = simp length-set (search needs)
 
 mul-work-9 : tie.Need-mul-work-9 Inv-loop μ-loop
 mul-work-9 c = search needs
@@ -75,7 +73,7 @@ mul-work-10 : tie.Need-mul-work-10 Inv-loop μ-loop
 mul-work-10 c = search needs
 
 slice-read-work-4 : tie.Need-slice-read-work-4 Inv-loop μ-loop
-slice-read-work-4 c = simp length-set (omega (arith, c .before .before .before .before .before .before .pre .1, c .before .before .before .before .before .loop .inv .1, c .before .before .before .before .loop-test .taken))
+slice-read-work-4 c = simp length-set (search needs)
 
 mul-work-11 : tie.Need-mul-work-11 Inv-loop μ-loop
 mul-work-11 c = search needs
@@ -87,7 +85,7 @@ mul-work-12 : tie.Need-mul-work-12 Inv-loop μ-loop
 mul-work-12 c = search needs
 
 slice-write-work-2 : tie.Need-slice-write-work-2 Inv-loop μ-loop
-slice-write-work-2 c = simp length-set (omega (arith, c .before .before .before .before .before .before .pre .1, c .before .before .before .before .before .loop .inv .1, c .before .before .before .before .loop-test .taken))
+slice-write-work-2 c = simp length-set (search needs)
 
 add-q : tie.Need-add-q Inv-loop μ-loop
 add-q c = search needs
@@ -97,24 +95,16 @@ loop-less c = search needs
 
 loop-again : tie.Need-loop-again Inv-loop μ-loop
 loop-again c =
-    let b = c .before .before .before .before .before .before in
-    let l = c .before .before .before .before .before .loop in
-    let x : ℕ = bitOr (getD (l .work) (4 * l .q + 2) 0) (getD (l .work) (4 * l .q) 0) in
-    let t : List ℕ = set (l .work) (4 * l .q + 2) x in
-    let s = spread-next 1 (l .q) (b .args .work .now) (l .work)
-    (set t (4 * l .q + 3) (bitOr (getD t (4 * l .q + 3) 0) (getD t (4 * l .q + 1) 0))) (l .inv .2)
-    (four-united (l .q) (l .work) (omega (arith, b .pre .1, l .inv .1, c .before .before .before .before .loop-test .taken)) t refl) in
-    (omega arith, s .long, s)
+    let at-loop = c .before .before .before .before .before in
+    let l = at-loop .loop in
+    let t = c .before .before .before .before .loop-test .taken in
+    blocks-next (l .inv) t (four-united (l .q) (l .work) (omega (arith, at-loop .before .pre .1, l .inv .spread .long, t)) _ refl)
 
 same-length : tie.Need-same-length Inv-loop μ-loop
 same-length c = search needs
 
 returns : tie.Need-returns Inv-loop μ-loop
-returns c =
-    let l = c .before .loop in
-    let g = c .before .before .args in
-    let e : l .q ≡ g .blocks = omega arith in
-    subst (λ (z : ℕ). Spread 1 (2 * z * 2 ^ 1) (g .work .now) (l .work)) e (l .inv .2)
+returns c = blocks-all (c .before .loop .inv) (omega arith)
 
 pub spread-fours-spec : {M : Type 1} → statement M
 spread-fours-spec =

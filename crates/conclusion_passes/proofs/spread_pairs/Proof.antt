@@ -1,23 +1,20 @@
 -- The blocks before the q-th are spread, and those from it on are as they were.
-use lib.ListN.{length, getD, set}
-use lib.Bits.{bitOr}
-use Rattle.conclusion_passes.specs.GatheredConclusions.{Spread}
-use Rattle.conclusion_passes.specs.GatheredLaws.{spread-none, spread-next, pair-united}
 use borrow.Author.Needs.{needs}
 use native.Mathlib.Omega.{arith}
-use Prim.Native.Nat.{ℕ, _+_, _-_, _*_, _^_, _≤_}
-use mathlib.Core.Path.{_≡_, refl, subst}
+use Prim.Native.Nat.{_-_}
+use Rattle.conclusion_passes.specs.GatheredConclusions.{BlocksSpread}
+use Rattle.conclusion_passes.specs.GatheredLaws.{blocks-none, blocks-next, blocks-all, pair-united}
 use Rattle.conclusion_passes.proofs.spread_pairs.Statement.{statement}
 use Rattle.conclusion_passes.proofs.spread_pairs.Tie as tie
 
 abbrev Inv-loop : tie.InvT-loop
-Inv-loop table₀ blocks q₀ table q = (q ≤ blocks) × (length table ≡ length table₀) × Spread 0 (2 * q * 2 ^ 0) table₀ table
+Inv-loop table₀ blocks q₀ table q = BlocksSpread 0 blocks q table₀ table
 
 abbrev μ-loop : tie.MeasureT-loop
 μ-loop table₀ blocks q₀ table q = blocks - q
 
 loop-holds : tie.Need-loop-holds Inv-loop μ-loop
-loop-holds c = (omega arith, refl, spread-none 0 (c .args .work .now))
+loop-holds c = blocks-none
 
 mul-work : tie.Need-mul-work Inv-loop μ-loop
 mul-work c = search needs
@@ -60,22 +57,16 @@ loop-less c = search needs
 
 loop-again : tie.Need-loop-again Inv-loop μ-loop
 loop-again c =
-    let b = c .before .before .before .before in
-    let l = c .before .before .before .loop in
-    let x : ℕ = bitOr (getD (l .work) (2 * l .q + 1) 0) (getD (l .work) (2 * l .q) 0) in
-    let s = spread-next 0 (l .q) (b .args .work .now) (l .work) (set (l .work) (2 * l .q + 1) x) (l .inv .2)
-    (pair-united (l .q) (l .work) (omega (arith, b .pre .1, l .inv .1, c .before .before .loop-test .taken))) in
-    (omega arith, s .long, s)
+    let at-loop = c .before .before .before in
+    let l = at-loop .loop in
+    let t = c .before .before .loop-test .taken in
+    blocks-next (l .inv) t (pair-united (l .q) (l .work) (omega (arith, at-loop .before .pre .1, l .inv .spread .long, t)))
 
 same-length : tie.Need-same-length Inv-loop μ-loop
 same-length c = search needs
 
 returns : tie.Need-returns Inv-loop μ-loop
-returns c =
-    let l = c .before .loop in
-    let g = c .before .before .args in
-    let e : l .q ≡ g .blocks = omega arith in
-    subst (λ (z : ℕ). Spread 0 (2 * z * 2 ^ 0) (g .work .now) (l .work)) e (l .inv .2)
+returns c = blocks-all (c .before .loop .inv) (omega arith)
 
 pub spread-pairs-spec : {M : Type 1} → statement M
 spread-pairs-spec =

@@ -5,7 +5,8 @@ use Prim.Native.Nat.{ℕ, _+_}
 use native.Mathlib.Omega.{arith}
 use borrow.Author.Needs.{needs}
 use lib.ListN.{getD}
-use Rattle.movable_nodes.specs.Movability.{nodesHeld}
+use Rattle.sheet_types.specs.NodeTable.{nodesOf}
+use Rattle.sheet_types.specs.HeldSheet.{nodesIn}
 use Rattle.ask_labels.specs.LabelShelf.{Shelved}
 use Rattle.exploration.specs.MemberExplored.{one-on, one-over}
 use Rattle.exploration.specs.ExploredPlaces.{fromLow, exploring-from, low-within}
@@ -13,14 +14,14 @@ use Rattle.unexplored_members.specs.UnexploredCount.{unexploredBelow, unexplore
 use Rattle.exploration.specs.ExplorationLaws.{shelf-fits, Explores, explores-none, explores-all, explores-over, explores-next}
 use Rattle.exploration.proofs.explore.Statement.{statement}
 use Rattle.exploration.proofs.explore.Tie as tie
-use Rattle.work_layout.specs.WorkLayout.{spansAt}
+use Rattle.work_layout.specs.WorkLayout.{spansAt, memberRoom}
 
 abbrev Inv-loop : tie.InvT-loop
-Inv-loop w₀ kinds firsts seconds counts threads movables plan run₀ shelf₀ store₀ w run shelf store =
-    Explores (nodesHeld kinds firsts seconds (plan .nodes)) plan w₀ run₀ w run shelf store
+Inv-loop w₀ table plan run₀ shelf₀ store₀ w run shelf store =
+    Explores (nodesIn (nodesOf table) (plan .nodes)) plan w₀ run₀ w run shelf store
 
 abbrev μ-loop : tie.MeasureT-loop
-μ-loop w₀ kinds firsts seconds counts threads movables plan run₀ shelf₀ store₀ w run shelf store = unexploredBelow w 512
+μ-loop w₀ table plan run₀ shelf₀ store₀ w run shelf store = unexploredBelow w memberRoom
 
 -- ---- the stages of the function, each from a later one
 abbrev start-of-at-loop : tie.At-loop Inv-loop μ-loop → tie.Start Inv-loop μ-loop
@@ -57,7 +58,7 @@ id-at-of-explore-member s = id-at-of-store-of (store-of-of-shelf-for (shelf-for-
 loop-holds : tie.Need-loop-holds Inv-loop μ-loop
 loop-holds c =
     let g = c .before .args in
-    explores-none (nodesHeld (g .kinds .now) (g .firsts .now) (g .seconds .now) (g .plan .nodes)) (g .plan) (g .work .now) (g .s) (c .before .pre .1) 65536
+    explores-none (nodesIn (nodesOf (g .table .now)) (g .plan .nodes)) (g .plan) (g .work .now) (g .s) (c .before .pre .1) 65536
 
 next-place-requires : tie.Need-next-place-requires Inv-loop μ-loop
 next-place-requires c κs =
@@ -72,7 +73,7 @@ returns c =
     let g = c .before .before .before .before .before .args in
     let l = c .before .before .before .loop in
     let p = c .before .next-place in
-    explores-all (nodesHeld (g .kinds .now) (g .firsts .now) (g .seconds .now) (g .plan .nodes)) (g .plan) (g .work .now) (g .s) (c .before .before .before .before .before .pre .1)
+    explores-all (nodesIn (nodesOf (g .table .now)) (g .plan .nodes)) (g .plan) (g .work .now) (g .s) (c .before .before .before .before .before .pre .1)
     (l .work) (l .run) (l .shelf) (l .store) (l .inv) (p .result) (p .ensures) (c .if1 .taken)
 
 id-at-requires : tie.Need-id-at-requires Inv-loop μ-loop
@@ -130,7 +131,7 @@ returns-2 c =
     let l = at-loop .loop in
     let p = at-next-place .next-place in
     let m = at-explore-member .explore-member in
-    let nodes = nodesHeld (g .kinds .now) (g .firsts .now) (g .seconds .now) (g .plan .nodes) in
+    let nodes = nodesIn (nodesOf (g .table .now)) (g .plan .nodes) in
     explores-over nodes (g .plan) (g .work .now) (g .s) (at-start .pre .1)
     (l .work) (l .run) (l .shelf) (l .store) (l .inv) (p .result) (p .ensures) (m .last .0)
     (one-over nodes (g .plan) (l .work) (fromLow (l .run) (p .result)) (at-id-at .id-at .result) (m .last .0) (m .result) (c .enum-told .given .1) (m .ensures))
@@ -149,7 +150,7 @@ loop-less c =
     let p = at-next-place .next-place in
     let i = at-id-at .id-at in
     let m = at-explore-member .explore-member in
-    let nodes = nodesHeld (g .kinds .now) (g .firsts .now) (g .seconds .now) (g .plan .nodes) in
+    let nodes = nodesIn (nodesOf (g .table .now)) (g .plan .nodes) in
     let e = one-on nodes (g .plan) (l .work) (fromLow (l .run) (p .result)) (i .result) (m .last .0) (m .result) (at-r .r .given .1) (m .ensures) in
     unexplored-less (l .work) (m .last .0) (i .result) (e .others)
     (ap (λ (n : ℕ). getD (l .work) (spansAt + n) 0) (i .ensures .0)
@@ -171,7 +172,7 @@ loop-again c =
     let i = at-id-at .id-at in
     let m = at-explore-member .explore-member in
     let k = at-r .r .given in
-    let nodes = nodesHeld (g .kinds .now) (g .firsts .now) (g .seconds .now) (g .plan .nodes) in
+    let nodes = nodesIn (nodesOf (g .table .now)) (g .plan .nodes) in
     explores-next nodes (g .plan) (g .work .now) (g .s) (at-start .pre .1)
     (l .work) (l .run) (l .shelf) (l .store) (l .inv) (p .result) (p .ensures) (i .result) (m .last .0) (k .0 .0 .running) (k .0 .0 .shelf)
     (at-store-of .store-of .result) (at-store-of .store-of .ensures)

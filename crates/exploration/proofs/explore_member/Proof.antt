@@ -5,9 +5,9 @@ use native.Mathlib.Omega.{arith}
 use borrow.Author.Needs.{needs}
 use Rattle.sheets.specs.Sheet.{Configuration}
 use Rattle.sheet_laws.specs.Ranks.{rankOf}
-use Rattle.sheet_types.specs.HeldSheet.{configuration}
+use Rattle.sheet_types.specs.NodeTable.{nodesOf}
+use Rattle.sheet_types.specs.HeldSheet.{configuration, nodesIn}
 use Rattle.exploration.specs.MemberExplored.{lent-carried, id-fits, walk-begins, found-standing, moves-over, additions-over, member-explored, found-on, found-over, added-on, added-over}
-use Rattle.movable_nodes.specs.Movability.{nodesHeld}
 use Rattle.exploration.proofs.explore_member.Statement.{statement}
 use Rattle.exploration.proofs.explore_member.Tie as tie
 
@@ -52,7 +52,7 @@ returns c =
     let g = b .args in
     let u = member .configuration-of in
     let m = moved .moves-of in
-    moves-over (nodesHeld (g .kinds .now) (g .firsts .now) (g .seconds .now) (g .plan .nodes)) (g .plan) (g .work .now) (g .s) (g .id)
+    moves-over (nodesIn (nodesOf (g .table .now)) (g .plan .nodes)) (g .plan) (g .work .now) (g .s) (g .id)
     (b .pre .1) (b .pre .2) (b .pre .3) (u .result .store) (configuration (u .result)) (u .ensures .0 ∙ key .key-of .ensures .1) (g .shelf)
     (m .last .0) (found-over rankOf (c .enum-told .given .1) (m .ensures))
 
@@ -84,7 +84,7 @@ returns-2 c =
     let m = moved .moves-of in
     let k = on .r .given in
     let a = added .add-labels in
-    additions-over (nodesHeld (g .kinds .now) (g .firsts .now) (g .seconds .now) (g .plan .nodes)) (g .plan) (g .work .now) (g .s) (g .id)
+    additions-over (nodesIn (nodesOf (g .table .now)) (g .plan .nodes)) (g .plan) (g .work .now) (g .s) (g .id)
     (b .pre .1) (b .pre .2) (b .pre .3) (u .result .store) (configuration (u .result)) (u .ensures .0 ∙ key .key-of .ensures .1) (g .shelf)
     (m .last .0) (k .0 .0) (found-on rankOf (k .1) (m .ensures)) (a .last .0) (added-over (c .enum-told2 .given .1) (a .ensures))
 
@@ -123,7 +123,7 @@ returns-3 c =
     let a = added .add-labels in
     let q = ended .q .given in
     let e = u .ensures .0 ∙ key .key-of .ensures .1 in
-    member-explored (nodesHeld (g .kinds .now) (g .firsts .now) (g .seconds .now) (g .plan .nodes)) (g .plan) (g .work .now) (g .s) (g .id)
+    member-explored (nodesIn (nodesOf (g .table .now)) (g .plan .nodes)) (g .plan) (g .work .now) (g .s) (g .id)
     (b .pre .1) (b .pre .2) (b .pre .3) (u .result .store) (configuration (u .result)) e (g .shelf)
     (m .last .0) (k .0 .0) (found-on rankOf (k .1) (m .ensures)) (a .last .0) (q .0 .0) (added-on (q .1) (a .ensures))
     (spanned .put-span .last .0) (spanned .put-span .ensures) (ap (λ (x : Configuration). x .store) e)

@@ -1,6 +1,7 @@
 -- `find_set`: exploring begins with the seeds as members, and where it ends with every member explored these are the whole set.
 use native.Mathlib.Omega.{arith}
 use borrow.Author.Needs.{needs}
+use Rattle.sheet_types.specs.NodeTable.{nodesOf}
 use Rattle.sheet_types.specs.HeldSheet.{startsIn, sheetOf, nodesIn}
 use Rattle.comparison_laws.specs.SheetMoves.{conclusions-fit}
 use Rattle.ask_labels.specs.LabelShelfLaws.{sets-few}
@@ -126,7 +127,7 @@ returns-2 c =
     (f .ensures .1) (n .ensures) (m .last .0) (q .0 .0) (f .ensures .0)
     (seeds-on (n .last .0) (g .caps) (startsIn (g .seeds) (g .k)) (m .last .0) (m .result) (q .1) (m .ensures))
     (x .last .0)
-    (all-over (nodesIn (g .sheet .nodes) (g .sheet .«node_count»)) (planOf (g .sheet) (g .caps)) (m .last .0) (q .0 .0) (x .last .0) (x .result)
+    (all-over (nodesIn (nodesOf (g .sheet .table)) (g .sheet .«node_count»)) (planOf (g .sheet) (g .caps)) (m .last .0) (q .0 .0) (x .last .0) (x .result)
     (c .enum-told2 .given .1) (x .ensures))
 
 arrange-requires : tie.Need-arrange-requires
@@ -141,7 +142,7 @@ arrange-requires c κs =
     let q = at-e .e .given in
     let x = at-explore-sheet .explore-sheet in
     let r = at-r .r .given in
-    let o = all-on (nodesIn (g .sheet .nodes) (g .sheet .«node_count»)) (planOf (g .sheet) (g .caps)) (m .last .0) (q .0 .0) (x .last .0) (x .result)
+    let o = all-on (nodesIn (nodesOf (g .sheet .table)) (g .sheet .«node_count»)) (planOf (g .sheet) (g .caps)) (m .last .0) (q .0 .0) (x .last .0) (x .result)
     (r .1) (x .ensures) in
     discovered-some (o .exploring) (o .all)
 
@@ -170,7 +171,7 @@ returns-3 c =
     (f .ensures .1) (n .ensures) (m .last .0) (q .0 .0) (f .ensures .0)
     (seeds-on (n .last .0) (g .caps) (startsIn (g .seeds) (g .k)) (m .last .0) (m .result) (q .1) (m .ensures))
     (x .last .0) (r .0 .0) (z .last .0)
-    (all-on (nodesIn (g .sheet .nodes) (g .sheet .«node_count»)) (planOf (g .sheet) (g .caps)) (m .last .0) (q .0 .0) (x .last .0) (x .result)
+    (all-on (nodesIn (nodesOf (g .sheet .table)) (g .sheet .«node_count»)) (planOf (g .sheet) (g .caps)) (m .last .0) (q .0 .0) (x .last .0) (x .result)
     (r .1) (x .ensures))
     (z .ensures)
 

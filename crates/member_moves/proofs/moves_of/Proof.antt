@@ -2,20 +2,20 @@
 use native.Mathlib.Omega.{arith}
 use Prim.Native.Nat.{_-_, _≤_}
 use borrow.Author.Needs.{needs}
-use Rattle.sheet_types.specs.HeldSheet.{configuration}
+use Rattle.sheet_types.specs.NodeTable.{nodesOf}
+use Rattle.sheet_types.specs.HeldSheet.{configuration, nodesIn}
 use Rattle.sheet_laws.specs.Ranks.{rankOf}
-use Rattle.movable_nodes.specs.Movability.{nodesHeld}
 use Rattle.tell_ask_visits.specs.TellAskLaws.{eight-places, counted}
 use Rattle.member_moves.specs.MovesFoundLaws.{SoFar, so-far-none, so-far-next, so-far-over, so-far-all, next-on, next-over}
 use Rattle.member_moves.proofs.moves_of.Statement.{statement}
 use Rattle.member_moves.proofs.moves_of.Tie as tie
 
 abbrev Inv-loop : tie.InvT-loop
-Inv-loop w₀ kinds firsts seconds counts threads movables b e cur₀ i₀ n w cur i =
-    (i ≤ n) × SoFar rankOf (nodesHeld kinds firsts seconds (b .nodes)) b w₀ cur₀ (configuration e) i w cur
+Inv-loop w₀ table b e cur₀ i₀ n w cur i =
+    (i ≤ n) × SoFar rankOf (nodesIn (nodesOf table) (b .nodes)) b w₀ cur₀ (configuration e) i w cur
 
 abbrev μ-loop : tie.MeasureT-loop
-μ-loop w₀ kinds firsts seconds counts threads movables b e cur₀ i₀ n w cur i = n - i
+μ-loop w₀ table b e cur₀ i₀ n w cur i = n - i
 
 cast-n : tie.Need-cast-n Inv-loop μ-loop
 cast-n c = search needs
@@ -24,7 +24,7 @@ loop-holds : tie.Need-loop-holds Inv-loop μ-loop
 loop-holds c =
     let o = c .before .before in
     let a = o .args in
-    (omega arith, so-far-none (nodesHeld (a .kinds .now) (a .firsts .now) (a .seconds .now) (a .b .nodes)) (configuration (a .e)) (o .pre .1) (o .pre .2) (o .pre .3))
+    (omega arith, so-far-none (nodesIn (nodesOf (a .table .now)) (a .b .nodes)) (configuration (a .e)) (o .pre .1) (o .pre .2) (o .pre .3))
 
 thread-moves-requires : tie.Need-thread-moves-requires Inv-loop μ-loop
 thread-moves-requires c κs =
@@ -77,7 +77,7 @@ returns-2 c =
     let h = o .pre in
     let m = c .before .loop in
     let long = counted (a .e .threads) (a .e .count)
-    (eight-places (a .e .threads) (o .good .1 .1 .1 .1 .1 .1 .1 .1 .0 .1 .1 .1 .1 .0 .1 .0 .1)) (h .5) in
+    (eight-places (a .e .threads) (o .good .1 .1 .1 .0 .1 .1 .1 .1 .0 .1 .0 .1)) (h .5) in
     so-far-all (h .1) (m .inv .1) (h .6) (omega (arith, long, c .loop-test .left))
 
 pub moves-of-spec : {M : Type 1} → statement M

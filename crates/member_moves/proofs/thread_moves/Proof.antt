@@ -4,8 +4,8 @@ use Prim.Native.Nat.{_-_}
 use lib.ListN.{getD}
 use borrow.Author.Needs.{needs}
 use borrow.Author.Tests.{eqb-true}
-use Rattle.sheet_types.specs.HeldSheet.{configuration}
-use Rattle.movable_nodes.specs.Movability.{nodesHeld}
+use Rattle.sheet_types.specs.NodeTable.{nodesOf}
+use Rattle.sheet_types.specs.HeldSheet.{configuration, nodesIn}
 use Rattle.tell_ask_visits.specs.TellAskLaws.{eight-places, counted}
 use Rattle.node_walk.specs.NodeVisitLaws.{lent-nodes}
 use Rattle.member_moves.specs.MovesFoundLaws.{same-next, counted-same, pushed-thread, stored-thread, walked-next}
@@ -26,8 +26,8 @@ returns c =
     let o = c .before .before .before .before in
     let a = o .args in
     let h = o .pre in
-    let long = counted (a .e .threads) (a .e .count) (eight-places (a .e .threads) (o .good .1 .1 .1 .1 .1 .1 .1 .1 .0 .1 .1 .1 .1 .0 .1 .0 .1)) (h .4) in
-    same-next (nodesHeld (a .kinds .now) (a .firsts .now) (a .seconds .now) (a .b .nodes)) (configuration (a .e)) (a .i) (h .1) (h .2)
+    let long = counted (a .e .threads) (a .e .count) (eight-places (a .e .threads) (o .good .1 .1 .1 .0 .1 .1 .1 .1 .0 .1 .0 .1)) (h .4) in
+    same-next (nodesIn (nodesOf (a .table .now)) (a .b .nodes)) (configuration (a .e)) (a .i) (h .1) (h .2)
     (c .before .if1 .taken) (omega (arith, long, h .6))
     (counted-same (a .e) (a .i) (h .6)
     (eqb-true (getD (a .e .threads) (a .i - 1) 0) (getD (a .e .threads) (a .i) 0) (c .if2 .taken)))
@@ -45,10 +45,10 @@ walk-requires c κs =
     let o = made .before .before .before .before in
     let a = o .args in
     let h = o .pre in
-    let long = counted (a .e .threads) (a .e .count) (eight-places (a .e .threads) (o .good .1 .1 .1 .1 .1 .1 .1 .1 .0 .1 .1 .1 .1 .0 .1 .0 .1)) (h .4) in
+    let long = counted (a .e .threads) (a .e .count) (eight-places (a .e .threads) (o .good .1 .1 .1 .0 .1 .1 .1 .1 .0 .1 .0 .1)) (h .4) in
     let p = pushed-thread (made .thread-beside .ensures .0) (stored .push .ensures) in (
       h .0,
-      stored-thread (nodesHeld (a .kinds .now) (a .firsts .now) (a .seconds .now) (a .b .nodes)) (lent-nodes (h .0)) (configuration (a .e)) (a .i) (h .1) (h .2) (h .0 .few)
+      stored-thread (nodesIn (nodesOf (a .table .now)) (a .b .nodes)) (lent-nodes (h .0)) (configuration (a .e)) (a .i) (h .1) (h .2) (h .0 .few)
           (h .3) (h .5) (omega (arith, long, h .6)) p,
     )
 
@@ -63,10 +63,10 @@ returns-2 c =
     let o = made .before .before .before .before in
     let a = o .args in
     let h = o .pre in
-    let long = counted (a .e .threads) (a .e .count) (eight-places (a .e .threads) (o .good .1 .1 .1 .1 .1 .1 .1 .1 .0 .1 .1 .1 .1 .0 .1 .0 .1)) (h .4) in
+    let long = counted (a .e .threads) (a .e .count) (eight-places (a .e .threads) (o .good .1 .1 .1 .0 .1 .1 .1 .1 .0 .1 .0 .1)) (h .4) in
     let r = walked .walk in
     let p = pushed-thread (made .thread-beside .ensures .0) (stored .push .ensures) in
-    walked-next (nodesHeld (a .kinds .now) (a .firsts .now) (a .seconds .now) (a .b .nodes)) (lent-nodes (h .0)) (configuration (a .e)) (a .i) (h .1) (h .2) (h .0 .few)
+    walked-next (nodesIn (nodesOf (a .table .now)) (a .b .nodes)) (lent-nodes (h .0)) (configuration (a .e)) (a .i) (h .1) (h .2) (h .0 .few)
     (h .3) (h .5) (omega (arith, long, h .6)) p (r .last .0) (r .result) (r .ensures)
 
 pub thread-moves-spec : {M : Type 1} → statement M

@@ -6,6 +6,7 @@ use Rattle.sheet_types.specs.SectionLaws.{answer-got, got-then, refused-then}
 use Rattle.sheet_laws.specs.FieldLaws.{kind-gets, first-gets}
 use Rattle.sheet_laws.specs.NodeFields.{nodeFieldsAt}
 use Rattle.node_reader.specs.NodesFound.{node-refused, node-got}
+use Rattle.node_reader.specs.StoredNode.{second-low}
 use Rattle.node_reader.proofs.node_at.Statement.{statement}
 use Rattle.node_reader.proofs.node_at.Tie as tie
 
@@ -115,7 +116,10 @@ returns-4 c =
     let rules = rulesIn (a .rules .now) (a .rule-count) in
     let kind = answer-got (at-kind-at .kind-at .ensures) (at-k .k .given .1) in
     node-got (a .facts) rules (a .nodes) (a .number) (a .s .now) (a .at) _ _ _ _ refl
-    (kind-gets (a .s .now) (a .at) .holds _ _ kind .1) (c .held-first .ensures)
+    (kind-gets (a .s .now) (a .at) .holds _ _ kind .1)
+    (second-low (at-k .k .given .0 .0) (a .nodes) (a .number) (a .s .now) (at-f .f .given .0 .1 .0)
+    (answer-got (at-second-at .second-at .ensures) (c .before .before .g .given .1)))
+    (c .held-first .ensures)
     (got-then (at-kind-at .kind-at .ensures) _ (at-k .k .given .1)
     ∙ got-then (at-first-at .first-at .ensures) _ (at-f .f .given .1)
     ∙ got-then (at-second-at .second-at .ensures) _ (c .before .before .g .given .1))

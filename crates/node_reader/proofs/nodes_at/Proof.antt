@@ -27,7 +27,7 @@ returns : tie.Need-returns
 unfolding nodesAt
 returns c = let a = c .before .before .before .before .before .args in
     let told = c .before .enum-told .given .1 in
-    nodes-refused (nodesAt (a .facts) (rulesIn (a .rules .now) (a .rule-count)) (a .s .now) (a .at)) (a .s .now) (c .no-nodes .result) (c .no-nodes .ensures ∙ told)
+    nodes-refused (nodesAt (a .facts) (rulesIn (a .rules .now) (a .rule-count)) (a .s .now) (a .at)) (a .s .now) (c .no-nodes .result) _ (c .no-nodes .ensures) told
     (sym (refused-then (c .before .before .before .count-at .ensures) _ told))
 
 nodes-from-requires : tie.Need-nodes-from-requires

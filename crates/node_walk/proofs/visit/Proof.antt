@@ -7,7 +7,8 @@ use Prim.Native.Nat.{ℕ, _+_, _-_, _<_}
 use mathlib.Core.Path.{_≡_, ap, _∙_}
 use Rattle.node_moves.specs.NodeMoves.{NodeBeside}
 use Rattle.threads_beside.specs.ThreadsBeside.{nodeBeside, nodeFor}
-use Rattle.movable_nodes.specs.Movability.{nodesHeld}
+use Rattle.sheet_types.specs.NodeTable.{nodesOf}
+use Rattle.sheet_types.specs.HeldSheet.{nodesIn}
 use Rattle.node_walk.specs.NodeVisitLaws.{taken-walking, taken-passed, taken-fits, taken-low, taken-turned}
 use Rattle.node_walk.proofs.visit.Statement.{statement}
 use Rattle.node_walk.proofs.visit.Tie as tie
@@ -45,11 +46,11 @@ pending-at-requires c κs =
 node-of-requires : tie.Need-node-of-requires
 node-of-requires c κs = c .pending-at .ensures .0
 
-cast-kind : tie.Need-cast-kind
-cast-kind c = search needs
+cast-kind-in : tie.Need-cast-kind-in
+cast-kind-in c = search needs
 
-element-copy-out-kind : tie.Need-element-copy-out-kind
-element-copy-out-kind c =
+kind-in-requires : tie.Need-kind-in-requires
+kind-in-requires c κs =
     let unpacked = c .before in
     let read = pending-at-of-node-of unpacked in
     let o = start-of-pending-at read in
@@ -79,7 +80,7 @@ returns c =
     let x = read .pending-at in
     let n : a .s .top - 1 + 1 ≡ a .s .top = omega (arith, o .pre .2) in
     taken-passed (o .pre .1) (a .s .top - 1) n (nodeFor (x .result)) (x .ensures .1) (m .ensures)
-    (nodesHeld (a .kinds .now) (a .firsts .now) (a .seconds .now) (a .b .nodes)) (not-true (m .result .fresh) (c .if1 .taken))
+    (nodesIn (nodesOf (a .table .now)) (a .b .nodes)) (not-true (m .result .fresh) (c .if1 .taken))
 
 visit-kind-requires : tie.Need-visit-kind-requires
 visit-kind-requires c κs =
@@ -117,7 +118,7 @@ returns-2 c =
     let n : a .s .top - 1 + 1 ≡ a .s .top = omega (arith, o .pre .2) in
     let r = visited .visit-kind in
     taken-turned (o .pre .1) (a .s .top - 1) n (nodeFor (x .result)) (x .ensures .1) (m .ensures) (nodeBeside (e .result)) (e .ensures .0)
-    (nodesHeld (a .kinds .now) (a .firsts .now) (a .seconds .now) (a .b .nodes)) (r .last .0) (r .result) (r .ensures)
+    (nodesIn (nodesOf (a .table .now)) (a .b .nodes)) (r .last .0) (r .result) (r .ensures)
 
 pub visit-spec : {M : Type 1} → statement M
 visit-spec =
@@ -126,8 +127,8 @@ visit-spec =
     sub-top
     pending-at-requires
     node-of-requires
-    cast-kind
-    element-copy-out-kind
+    cast-kind-in
+    kind-in-requires
     see-requires
     same-length
     returns

@@ -2,7 +2,8 @@
 use borrow.Author.Needs.{needs}
 use native.Mathlib.Omega.{arith}
 use Rattle.sheet_laws.specs.Ranks.{rankOf}
-use Rattle.movable_nodes.specs.Movability.{nodesHeld}
+use Rattle.sheet_types.specs.NodeTable.{nodesOf}
+use Rattle.sheet_types.specs.HeldSheet.{nodesIn}
 use Rattle.nodes_to_visit.specs.NodesToVisit.{pendingIn}
 use Rattle.nodes_to_visit.specs.NodesToVisitLaws.{weight}
 use Rattle.node_walk.specs.NodeVisitLaws.{Onward, onward-none, onward-next, onward-over, onward-end, turned-on, turned-over}
@@ -10,16 +11,16 @@ use Rattle.node_walk.proofs.walk.Statement.{statement}
 use Rattle.node_walk.proofs.walk.Tie as tie
 
 abbrev Inv-loop : tie.InvT-loop
-Inv-loop w₀ kinds firsts seconds counts threads movables b cur₀ w cur = Onward rankOf (nodesHeld kinds firsts seconds (b .nodes)) b w₀ cur₀ w cur
+Inv-loop w₀ table b cur₀ w cur = Onward rankOf (nodesIn (nodesOf table) (b .nodes)) b w₀ cur₀ w cur
 
 abbrev μ-loop : tie.MeasureT-loop
-μ-loop w₀ kinds firsts seconds counts threads movables b cur₀ w cur = weight rankOf (pendingIn w (cur .top))
+μ-loop w₀ table b cur₀ w cur = weight rankOf (pendingIn w (cur .top))
 
 loop-holds : tie.Need-loop-holds Inv-loop μ-loop
 loop-holds c =
     let o = c .before in
     let a = o .args in
-    onward-none (nodesHeld (a .kinds .now) (a .firsts .now) (a .seconds .now) (a .b .nodes)) (o .pre .1)
+    onward-none (nodesIn (nodesOf (a .table .now)) (a .b .nodes)) (o .pre .1)
 
 visit-requires : tie.Need-visit-requires Inv-loop μ-loop
 visit-requires c κs =

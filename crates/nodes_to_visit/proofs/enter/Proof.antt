@@ -25,7 +25,7 @@ returns c =
     let y = packed .numbers in
     let s = looked .spot-of in
     let x : NodeBeside = record { node = g .node; threads = take (g .e .count) (g .e .threads) } in
-    entered-there rankOf (g .work .now) (g .top) (g .n) (s .result .at) x (y .result) (s .result .found) (s .ensures) (y .ensures .1) (c .if1 .taken)
+    entered-there rankOf (g .work .now) (g .top) (g .n) (s .result .at) x (y .result) (s .result .found) (s .ensures) (y .ensures .1) (y .ensures .0) (c .if1 .taken)
 
 mul-at : tie.Need-mul-at
 mul-at c = search needs
@@ -65,8 +65,8 @@ returns-2 c =
     let g = a .args in
     let x : NodeBeside = record { node = g .node; threads = take (g .e .count) (g .e .threads) } in
     rw (stored .put-three .ensures)
-    (entered-put rankOf (g .work .now) (g .top) (g .n) (s .result .at) x (y .result) (s .result .found) (s .ensures) (y .ensures .1) (r .last .0)
-    (left .if1 .left) (omega arith) (omega arith) (a .pre .3) (y .ensures .0) (r .ensures))
+    (entered-put rankOf (g .work .now) (g .top) (g .n) (s .result .at) x (y .result) (s .result .found) (s .ensures) (y .ensures .1) (y .ensures .0)
+    (r .last .0) (left .if1 .left) (omega arith) (omega arith) (a .pre .3) (r .ensures))
 
 pub enter-spec : {M : Type 1} → statement M
 enter-spec =

@@ -1,34 +1,22 @@
--- The answer is 1 behind three equal numbers, and 2 behind a test of the rank alone.
+-- The answer is 1 behind three equal numbers, and 2 behind the tests of the numbers of threads and of the rank.
+use mathlib.Core.Path.{refl}
 use native.Mathlib.Omega.{arith}
 use borrow.Author.Needs.{needs}
-use Rattle.nodes_to_visit.specs.NodesToVisitLaws.{placed-same}
 use Rattle.nodes_to_visit.proofs.side.Statement.{statement}
 use Rattle.nodes_to_visit.proofs.side.Tie as tie
 
--- ---- the stages of the function, each from a later one
-abbrev start-of-else1 : tie.Else1 → tie.Start
-start-of-else1 s = s .before .before .before
-
-abbrev else1-of-else2 : tie.Else2 → tie.Else1
-else1-of-else2 s = s .before .before .before
-
-abbrev else2-of-then3 : tie.Then3 → tie.Else2
-else2-of-then3 s = s .before .before .before
-
--- ---- what is left to show
 returns : tie.Need-returns
-returns c = (λ e. absurd (omega arith), λ e. absurd (omega arith))
+returns c = record { one = λ e. absurd (omega arith); two = λ e. absurd (omega arith); none = λ _ _ e f. absurd (omega arith) }
 
 returns-2 : tie.Need-returns-2
-returns-2 c = (λ e. absurd (omega arith), λ e. absurd (omega arith))
+returns-2 c = record { one = λ e. absurd (omega arith); two = λ e. absurd (omega arith); none = λ _ _ e f. absurd (omega arith) }
 
 returns-3 : tie.Need-returns-3
-returns-3 c =
-    let at-else1 = else1-of-else2 (else2-of-then3 c) in
-    let g = start-of-else1 at-else1 .args in (
-      λ e. placed-same (g .x .a) (g .x .b) (g .x .c) (g .y .a) (g .y .b) (g .y .c) (omega arith) (omega arith) (omega arith),
-      λ e. absurd (omega arith),
-    )
+returns-3 c = record {
+  one = λ e. (omega arith, omega arith, omega arith);
+  two = λ e. absurd (omega arith);
+  none = λ f. absurd (f refl);
+}
 
 cast-rank-of : tie.Need-cast-rank-of
 cast-rank-of c = search needs
@@ -43,13 +31,25 @@ rank-of-requires-2 : tie.Need-rank-of-requires-2
 rank-of-requires-2 c κs = search needs
 
 returns-4 : tie.Need-returns-4
-returns-4 c = (λ e. absurd (omega arith), λ e. absurd (omega arith))
+returns-4 c = record {
+  one = λ e. absurd (omega arith);
+  two = λ e. absurd (omega arith);
+  none = λ _ _ e f. ((λ z. omega arith), (λ z. absurd (omega arith)));
+}
 
 returns-5 : tie.Need-returns-5
-returns-5 c = (λ e. absurd (omega arith), λ e. omega arith)
+returns-5 c = record {
+  one = λ e. absurd (omega arith);
+  two = λ e. ((λ z. omega arith), omega arith, omega arith, omega arith, omega arith);
+  none = λ _ f. absurd (f refl);
+}
 
 returns-6 : tie.Need-returns-6
-returns-6 c = (λ e. absurd (omega arith), λ e. absurd (omega arith))
+returns-6 c = record {
+  one = λ e. absurd (omega arith);
+  two = λ e. absurd (omega arith);
+  none = λ _ _ e f. ((λ z. omega arith), (λ z. omega arith));
+}
 
 pub side-spec : {M : Type 1} → statement M
 side-spec =

@@ -1,16 +1,16 @@
--- Each turn takes one entry lower, whose node has a rank below n; it ends at an entry that is x, or at one that stays below x.
+-- Each turn takes one entry lower, which stays above x; it ends at an entry that is x, or at one that stays below x.
 use Prim.Native.Nat.{_-_, _≤_}
-use mathlib.Core.Path.{_≡_, sym, _∙_}
+use mathlib.Core.Path.{_≡_, sym, _∙_, subst}
 use native.Mathlib.Omega.{arith}
 use borrow.Author.Needs.{needs}
 use Rattle.sheet_laws.specs.Ranks.{rankOf}
-use Rattle.threads_beside.specs.ThreadsBeside.{nodeFor}
-use Rattle.nodes_to_visit.specs.EntryPlaces.{LowFrom, low-next, spot-there, spot-new}
+use Rattle.nodes_to_visit.specs.NodesToVisit.{StaysAbove, AboveFrom}
+use Rattle.nodes_to_visit.specs.EntryPlaces.{NoneOf, side-same, side-above, side-none, spot-there, spot-new, above-next}
 use Rattle.nodes_to_visit.proofs.spot_of.Statement.{statement}
 use Rattle.nodes_to_visit.proofs.spot_of.Tie as tie
 
 abbrev Inv-loop : tie.InvT-loop
-Inv-loop w top n x i₀ i = (i ≤ top) × LowFrom rankOf w top n i
+Inv-loop w top n x i₀ i = (i ≤ top) × AboveFrom rankOf w top n x i
 
 abbrev μ-loop : tie.MeasureT-loop
 μ-loop w top n x i₀ i = i
@@ -34,14 +34,20 @@ returns : tie.Need-returns Inv-loop μ-loop
 returns c =
     let g = c .before .before .before .before .before .before .args in
     let i = c .before .before .before .before .loop .i in
-    let e = c .before .before .pending-at .ensures .1 in
-    spot-there rankOf (g .work .now) (g .top) (g .n) (i - 1) (nodeFor (g .x)) (omega arith) (sym e ∙ c .before .side .ensures .0 (c .if1 .taken))
+    let y = c .before .before .pending-at in
+    let above = c .before .before .before .before .loop .inv .1 in
+    spot-there rankOf (g .work .now) (g .top) (g .n) (i - 1) (g .x) (omega arith)
+    (sym (y .ensures .1) ∙ side-same (c .before .side .ensures) (y .ensures .0) (c .if1 .taken))
+    (λ j h m. above j (omega arith) m)
 
 returns-2 : tie.Need-returns-2 Inv-loop μ-loop
 returns-2 c =
     let g = c .before .before .before .before .before .before .before .args in
     let l = c .before .before .before .before .before .loop in
-    spot-new rankOf (g .work .now) (g .top) (g .n) (l .i) (nodeFor (g .x)) (l .inv .0) (l .inv .1)
+    let y = c .before .before .before .pending-at in
+    let s = c .before .before .side in
+    spot-new rankOf (g .work .now) (g .top) (g .n) (l .i) (g .x) (l .inv .0) (l .inv .1)
+    (λ _. subst (NoneOf rankOf (g .n) (g .x)) (y .ensures .1) (side-none (s .ensures) (y .ensures .0) (λ e. omega arith) (λ e. omega arith)))
 
 sub-i : tie.Need-sub-i Inv-loop μ-loop
 sub-i c = search needs
@@ -54,14 +60,17 @@ loop-again c =
     let g = c .before .before .before .before .before .before .before .args in
     let l = c .before .before .before .before .before .loop in
     let y = c .before .before .before .pending-at in
-    let s : c .before .before .side .result ≡ 2 = omega arith in
-    (omega arith, low-next rankOf (g .work .now) (g .top) (g .n) (l .i) (y .result) (l .inv .1) (omega arith) (y .ensures .1) (c .before .before .side .ensures .1 s))
+    let s : c .before .before .side .result ≡ 2 = omega arith in (
+      omega arith,
+      above-next rankOf (g .work .now) (g .top) (g .n) (l .i) (g .x) (l .inv .1) (omega arith)
+          (subst (StaysAbove rankOf (g .n) (g .x)) (y .ensures .1) (side-above (c .before .before .side .ensures) (y .ensures .0) s)),
+    )
 
 returns-3 : tie.Need-returns-3 Inv-loop μ-loop
 returns-3 c =
     let g = c .before .before .before .args in
     let l = c .before .loop in
-    spot-new rankOf (g .work .now) (g .top) (g .n) 0 (nodeFor (g .x)) (omega arith) (λ j h m. l .inv .1 j (omega arith) m)
+    spot-new rankOf (g .work .now) (g .top) (g .n) 0 (g .x) (omega arith) (λ j h m. l .inv .1 j (omega arith) m) (λ z. absurd (omega arith))
 
 pub spot-of-spec : {M : Type 1} → statement M
 spot-of-spec =

@@ -1,8 +1,9 @@
 -- A part whose mark is 0 is passed over; for any other the threads are joined, and it is entered with them where they are not too many.
 use lib.ListN.{getD}
-use mathlib.Core.Path.{refl}
+use mathlib.Core.Path.{refl, sym, _∙_}
 use Rattle.sheet_laws.specs.Ranks.{rankOf}
-use Rattle.part_entry.specs.PartEntry.{threadsAt}
+use Rattle.sheet_types.specs.NodeTable.{openedOf, movablesOf}
+use Rattle.sheet_types.specs.HeldSheet.{openedIn}
 use Rattle.part_entry.specs.PartEntryLaws.{beside-few, part-too-long, part-stored}
 use mathlib.Core.Logic.{inl, inr}
 use native.Mathlib.Omega.{arith}
@@ -11,11 +12,11 @@ use borrow.Author.Tests.{not-false, not-true}
 use Rattle.part_entry.proofs.push_beside.Statement.{statement}
 use Rattle.part_entry.proofs.push_beside.Tie as tie
 
-element-copy-out-if1 : tie.Need-element-copy-out-if1
-element-copy-out-if1 c = search needs
+movable-in-requires : tie.Need-movable-in-requires
+movable-in-requires c κs = search needs
 
 returns : tie.Need-returns
-returns c = inl (record { still = c .if1 .taken; same = refl; walk = refl })
+returns c = inl (record { still = sym (c .before .movable-in .ensures) ∙ c .if1 .taken; same = refl; walk = refl })
 
 put-beside-requires : tie.Need-put-beside-requires
 put-beside-requires c κs = let h = c .before .before .before .before .pre in (h .1, h .4, h .5, h .7, h .8)
@@ -25,9 +26,10 @@ returns-2 c =
     let o = c .before .before .before .before .before .before .before in
     let a = o .args in
     let x = c .before .before .put-beside in
-    part-too-long (threadsAt (a .counts .now) (a .threads .now) (a .q)) (a .e) (a .b .caps .threads) (x .result) (x .ensures)
-    (o .pre .6) (o .pre .8) (getD (a .movables .now) (a .p) 0) (a .p)
-    (c .before .before .before .before .if1 .left) (a .work .now) (not-true (x .result .fits) (c .if2 .taken))
+    let moving = c .before .before .before .before in
+    part-too-long (openedIn (openedOf (a .table .now)) (a .q)) (a .e) (a .b .caps .threads) (x .result) (x .ensures)
+    (o .pre .6) (o .pre .8) (getD (movablesOf (a .table .now)) (a .p) 0) (a .p)
+    (λ h. moving .if1 .left (moving .before .movable-in .ensures ∙ h)) (a .work .now) (not-true (x .result .fits) (c .if2 .taken))
 
 cast-rank-of : tie.Need-cast-rank-of
 cast-rank-of c = search needs
@@ -45,7 +47,7 @@ enter-requires c κs =
     let o = joined .before .before .before .before .before in
     let a = o .args in
     let x = joined .put-beside in
-    let few = beside-few (threadsAt (a .counts .now) (a .threads .now) (a .q)) (a .e) (a .b .caps .threads) (x .result) (x .ensures)
+    let few = beside-few (openedIn (openedOf (a .table .now)) (a .q)) (a .e) (a .b .caps .threads) (x .result) (x .ensures)
     (o .pre .6) (o .pre .8) (not-false (x .result .fits) (fitting .if2 .left)) in
     (o .pre .2, o .pre .3, omega (arith, few, o .pre .5), o .pre .9)
 
@@ -63,15 +65,15 @@ returns-3 c =
     let a = o .args in
     let x = joined .put-beside in
     let y = entered .enter in
-    inr (part-stored (threadsAt (a .counts .now) (a .threads .now) (a .q)) (a .e) (a .b .caps .threads) (x .result) (x .ensures)
-    (o .pre .6) (o .pre .8) (getD (a .movables .now) (a .p) 0) (a .p) (moving .if1 .left) (a .work .now) (a .s) (y .last .0)
+    inr (part-stored (openedIn (openedOf (a .table .now)) (a .q)) (a .e) (a .b .caps .threads) (x .result) (x .ensures)
+    (o .pre .6) (o .pre .8) (getD (movablesOf (a .table .now)) (a .p) 0) (a .p) (λ h. moving .if1 .left (moving .before .movable-in .ensures ∙ h)) (a .work .now) (a .s) (y .last .0)
     (rankOf (a .e .node)) (ranked .rank-of .result) (y .result) (ranked .rank-of .ensures) (not-false (x .result .fits) (fitting .if2 .left)) (y .ensures))
 
 pub push-beside-spec : {M : Type 1} → statement M
 push-beside-spec =
     tie.close
     (tie.spec
-    element-copy-out-if1
+    movable-in-requires
     returns
     put-beside-requires
     returns-2

@@ -8,6 +8,7 @@ use Prim.Native.Nat.{_*_, _%_, _≤_}
 use borrow.Author.Needs.{needs}
 use Rattle.round_lines.proofs.watch_move.Statement.{statement}
 use Rattle.round_lines.proofs.watch_move.Tie as tie
+use Rattle.work_layout.specs.WorkLayout.{memberRoom}
 
 -- ---- the stages of the function, each from a later one
 abbrev start-of-add-place : tie.After-add-place → tie.Start
@@ -40,7 +41,7 @@ mul-add-place c =
     let b = c .before .before .before .before in
     let g = b .args in
     let p = b .pre in
-    let m : targetAt (g .work .now) (g .first) (g .j) ≤ 512 = omega (arith, p .3, p .2) in
+    let m : targetAt (g .work .now) (g .first) (g .j) ≤ memberRoom = omega (arith, p .3, p .2) in
     omega (arith, mul-le-mul-right (g .width) m, p .5)
 
 add-place-requires : tie.Need-add-place-requires
@@ -71,7 +72,7 @@ mul-add-place-2 c =
     let b = start-of-add-place (add-place-of-then1 at-then1) in
     let g = b .args in
     let p = b .pre in
-    let m : keptAt (g .work .now) (g .first) (g .j) % 65536 ≤ 512 = omega (arith, at-then1 .if1 .taken, p .2, p .3) in
+    let m : keptAt (g .work .now) (g .first) (g .j) % 65536 ≤ memberRoom = omega (arith, at-then1 .if1 .taken, p .2, p .3) in
     omega (arith, mul-le-mul-right (g .width) m, p .5)
 
 add-place-requires-2 : tie.Need-add-place-requires-2

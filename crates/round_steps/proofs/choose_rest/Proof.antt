@@ -3,7 +3,8 @@ use mathlib.Core.Logic.{⊎-elim}
 use lib.ListN.{length}
 use borrow.Author.Tests.{eqb-true, eqb-false, not-false, not-true}
 use Rattle.place_sets.specs.PlaceSets.{placeDigit}
-use Rattle.round_steps.specs.ChosenMembers.{Rechosen, rechosen-first, rechosen-class, rechosen-pass, rechosen-next}
+use Rattle.class_splits.specs.ChosenPlaces.{chosen-class}
+use Rattle.round_steps.specs.ChosenMembers.{Rechosen, rechosen-first, rechosen-pass, rechosen-next}
 use borrow.Author.Needs.{needs}
 use native.Mathlib.Omega.{arith}
 use Prim.Native.Nat.{ℕ, _+_, _-_, _≤_}
@@ -45,7 +46,7 @@ slice-write-work c =
     omega (
       arith,
       c .class-at .ensures,
-      rechosen-class (l .inv .2) (l .i) (omega arith),
+      chosen-class (l .inv .2) (l .i) (omega arith),
       b .pre .2 (l .i) (c .before .before .before .before .loop-test .taken),
       b .pre .1,
       l .inv .1,
@@ -67,8 +68,8 @@ loop-again c =
     ⊎-elim (λ z. rw (z .3)
     (rechosen-next (g .work .now) (g .n) (g .awake .now) (l .i) (l .work) (l .inv .2)
     (eqb-false (placeDigit (g .awake .now) 0 (l .i)) 1 (sym (h .ensures) ∙ not-true (h .result) (z .0 .taken)))
-    (b .pre .1) (z .2 .result) (z .2 .ensures ∙ rechosen-class (l .inv .2) (l .i) (omega arith))
-    (omega (arith, z .2 .ensures, rechosen-class (l .inv .2) (l .i) (omega arith), b .pre .2 (l .i) (c .before .before .loop-test .taken)))))
+    (b .pre .1) (z .2 .result) (z .2 .ensures ∙ chosen-class (l .inv .2) (l .i) (omega arith))
+    (omega (arith, z .2 .ensures, chosen-class (l .inv .2) (l .i) (omega arith), b .pre .2 (l .i) (c .before .before .loop-test .taken)))))
     (λ z. rw (z .1)
     (rechosen-pass (g .work .now) (g .n) (g .awake .now) (l .i) (l .work) (l .inv .2)
     (eqb-true (placeDigit (g .awake .now) 0 (l .i)) 1 (sym (h .ensures) ∙ not-false (h .result) (z .0 .left)))))

@@ -9,6 +9,7 @@ use Prim.Native.Nat.{ℕ, _-_, _≤_}
 use mathlib.Core.Path.{_≡_, subst}
 use Rattle.round_steps.proofs.wake.Statement.{statement}
 use Rattle.round_steps.proofs.wake.Tie as tie
+use Rattle.work_layout.specs.WorkLayout.{memberRoom}
 
 abbrev Inv-loop : tie.InvT-loop
 Inv-loop w sets width old list k awake₀ j₀ awake j = (j ≤ k) × Woken w sets width old list j awake
@@ -56,7 +57,7 @@ mul-unite c =
     let b = start-of-at-loop at-loop in
     let g = b .args in
     let l = at-loop .loop in
-    let m : getD (g .list .now) (l .j) 0 ≤ 512 = omega (arith, b .pre .3 (l .j) (c .before .before .before .loop-test .taken) .0) in
+    let m : getD (g .list .now) (l .j) 0 ≤ memberRoom = omega (arith, b .pre .3 (l .j) (c .before .before .before .loop-test .taken) .0) in
     record { fits = omega (arith, mul-le-mul-right (g .width) m, b .pre .2) }
 
 unite-requires : tie.Need-unite-requires Inv-loop μ-loop

@@ -3,7 +3,7 @@ use lib.ListN.{replicate}
 use Rattle.set_closure.specs.RuleTable.{rulesIn}
 use Rattle.sheets.specs.SheetLimits.{maxRules}
 use Rattle.sheet_reading.specs.Reading.{rulesAt}
-use Rattle.sheet_types.specs.SectionLaws.{answer-got, refused-with, refused-then, got-then}
+use Rattle.sheet_types.specs.SectionLaws.{answer-got, answer-refused, refused-with, refused-then, got-then}
 use Rattle.sheet_laws.specs.FieldLaws.{count-gets}
 use mathlib.Core.Path.{sym, _∙_}
 use borrow.Author.Needs.{needs}
@@ -22,7 +22,11 @@ enum-told c = search needs
 returns : tie.Need-returns
 unfolding rulesAt
 returns c =
-    refused-with (rulesIn (replicate 64 0)) (c .enum-told .given .1) ∙ refused-then (c .before .before .count-at .ensures) _ (c .enum-told .given .1)
+    let none = c .before .before .count-at .ensures in
+    record {
+      reading = refused-with (rulesIn (replicate 64 0)) (c .enum-told .given .1) ∙ refused-then none _ (c .enum-told .given .1);
+      array = rw (answer-refused none (c .enum-told .given .1));
+    }
 
 rules-from-requires : tie.Need-rules-from-requires
 rules-from-requires c κs =
@@ -34,7 +38,12 @@ rules-from-requires c κs =
 returns-2 : tie.Need-returns-2
 unfolding rulesAt
 returns-2 c =
-    c .rules-from .ensures ∙ sym (got-then (c .before .before .before .before .count-at .ensures) _ (c .before .before .r .given .1))
+    let count = c .before .before .before .before .count-at .ensures in
+    let r = c .rules-from .ensures in
+    record {
+      reading = r .reading ∙ sym (got-then count _ (c .before .before .r .given .1));
+      array = rw (answer-got count (c .before .before .r .given .1)) (r .array);
+    }
 
 pub rules-at-spec : {M : Type 1} → statement M
 rules-at-spec =

@@ -1,13 +1,14 @@
 -- After i rules, those in memory and what is left to read give what the whole gives.
 use mathlib.Core.List.{[]}
 use lib.ListN.{length, replicate, length-set}
-use Rattle.sheet_reading.specs.Reading.{got, recordsFrom}
+use Rattle.sheet_reading.specs.Reading.{got, ruleAt, recordsFrom}
 use Rattle.sheet_laws.specs.RecordLaws.{records-none, records-refused}
+use Rattle.sheet_laws.specs.StoredRecords.{storedFrom, stored-none, stored-refused, stored-next}
 use Rattle.sheet_types.specs.SectionLaws.{answer-got, answer-refused, refused-with}
 use Rattle.set_closure.specs.RuleTable.{rulesIn}
 use Rattle.sheet_laws.specs.FieldLaws.{set-gets, premise-gets}
 use Rattle.sheet_laws.specs.SectionLaws.{rule-no-premise, rule-no-conclusion, rule-got}
-use Rattle.rule_reader.specs.RuleLoop.{ruleItem, rules-first, rules-next}
+use Rattle.rule_reader.specs.RuleLoop.{ruleItem, storeRule, rules-first, rules-next}
 use borrow.Author.Needs.{needs}
 use native.Mathlib.Omega.{arith}
 use Prim.Native.Nat.{ℕ, _-_, _≤_}
@@ -18,6 +19,7 @@ use Rattle.rule_reader.proofs.rules_from.Tie as tie
 abbrev Inv-loop : tie.InvT-loop
 Inv-loop s facts n at rules₀ p₀ i₀ rules p i =
     (i ≤ n) × (p ≤ length s) × (length rules ≡ 64) × (recordsFrom (ruleItem facts s) (n - i) (rulesIn rules i) p ≡ recordsFrom (ruleItem facts s) n [] at)
+    × (storedFrom (ruleAt facts s) storeRule (n - i) i p rules ≡ storedFrom (ruleAt facts s) storeRule n 0 at (replicate 64 0))
 
 abbrev μ-loop : tie.MeasureT-loop
 μ-loop s facts n at rules₀ p₀ i₀ rules p i = n - i
@@ -42,7 +44,8 @@ set-at-of-y s = s .before .before
 loop-holds : tie.Need-loop-holds Inv-loop μ-loop
 loop-holds c =
     let a = c .before .args in
-    (search needs, search needs, search needs, rules-first (a .facts) (a .s .now) (a .n) (replicate 64 0) (a .at))
+    let z : a .n - 0 ≡ a .n = omega arith in
+    (search needs, search needs, search needs, rules-first (a .facts) (a .s .now) (a .n) (replicate 64 0) (a .at), rw z)
 
 premise-at-requires : tie.Need-premise-at-requires Inv-loop μ-loop
 premise-at-requires c κs = search needs
@@ -58,10 +61,13 @@ returns c =
     let a = c .before .before .before .before .before .before .args in
     let l = c .before .before .before .before .loop in
     let wrong = answer-refused (c .before .before .premise-at .ensures) (c .enum-told .given .1) in
-    refused-with (rulesIn (l .rules)) (c .enum-told .given .1)
-    ∙ sym (records-refused (ruleItem (a .facts) (a .s .now)) (a .n) (l .i) (rulesIn (l .rules) (l .i)) (l .p) _ _ (omega arith)
-    (rule-no-premise (a .facts) (a .s .now) (l .p) wrong))
-    ∙ l .inv .3
+    let here = rule-no-premise (a .facts) (a .s .now) (l .p) wrong in
+    record {
+      reading = refused-with (rulesIn (l .rules)) (c .enum-told .given .1)
+          ∙ sym (records-refused (ruleItem (a .facts) (a .s .now)) (a .n) (l .i) (rulesIn (l .rules) (l .i)) (l .p) _ _ (omega arith) here)
+          ∙ l .inv .3;
+      array = sym (stored-refused (ruleAt (a .facts) (a .s .now)) storeRule (a .n) (l .i) (l .p) (l .rules) (omega arith) here) ∙ l .inv .4;
+    }
 
 set-at-requires : tie.Need-set-at-requires Inv-loop μ-loop
 set-at-requires c κs =
@@ -86,10 +92,13 @@ returns-2 c =
     let l = at-loop .loop in
     let premise = answer-got (at-premise-at .premise-at .ensures) (at-x .x .given .1) in
     let wrong = answer-refused (at-set-at .set-at .ensures) (c .enum-told2 .given .1) in
-    refused-with (rulesIn (l .rules)) (c .enum-told2 .given .1)
-    ∙ sym (records-refused (ruleItem (a .facts) (a .s .now)) (a .n) (l .i) (rulesIn (l .rules) (l .i)) (l .p) _ _ (omega arith)
-    (rule-no-conclusion (a .facts) (a .s .now) (l .p) premise wrong))
-    ∙ l .inv .3
+    let here = rule-no-conclusion (a .facts) (a .s .now) (l .p) premise wrong in
+    record {
+      reading = refused-with (rulesIn (l .rules)) (c .enum-told2 .given .1)
+          ∙ sym (records-refused (ruleItem (a .facts) (a .s .now)) (a .n) (l .i) (rulesIn (l .rules) (l .i)) (l .p) _ _ (omega arith) here)
+          ∙ l .inv .3;
+      array = sym (stored-refused (ruleAt (a .facts) (a .s .now)) storeRule (a .n) (l .i) (l .p) (l .rules) (omega arith) here) ∙ l .inv .4;
+    }
 
 cast-k : tie.Need-cast-k Inv-loop μ-loop
 cast-k c = search needs
@@ -129,13 +138,13 @@ loop-again c =
     let a = at-start .args in
     let l = at-loop .loop in
     let premise = answer-got (at-premise-at .premise-at .ensures) (at-x .x .given .1) in
-    let conclusion = answer-got (at-set-at .set-at .ensures) (at-y .y .given .1) in (
+    let conclusion = answer-got (at-set-at .set-at .ensures) (at-y .y .given .1) in
+    let here = rule-got (a .facts) (a .s .now) (l .p) premise conclusion in (
       search needs,
       set-gets (a .s .now) (at-x .x .given .0 .1 .0) (a .facts) .holds _ _ conclusion .0 .within,
       simp length-set (omega arith),
-      sym (rules-next (a .facts) (a .s .now) (a .n) (l .rules) (l .i) (l .p) (omega arith) (omega arith)
-          (rule-got (a .facts) (a .s .now) (l .p) premise conclusion))
-          ∙ l .inv .3,
+      sym (rules-next (a .facts) (a .s .now) (a .n) (l .rules) (l .i) (l .p) (omega arith) (omega arith) here) ∙ l .inv .3,
+      sym (stored-next (ruleAt (a .facts) (a .s .now)) storeRule (a .n) (l .i) (l .p) (l .rules) _ (omega arith) here) ∙ l .inv .4,
     )
 
 returns-3 : tie.Need-returns-3 Inv-loop μ-loop
@@ -143,9 +152,12 @@ returns-3 c =
     let a = c .before .before .before .args in
     let l = c .before .loop in
     let e : l .i ≡ a .n = omega arith in
-    ap (λ (k : ℕ). got (rulesIn (l .rules) k) (l .p)) (sym e)
-    ∙ sym (records-none (ruleItem (a .facts) (a .s .now)) (a .n) (l .i) (rulesIn (l .rules) (l .i)) (l .p) (omega arith))
-    ∙ l .inv .3
+    record {
+      reading = ap (λ (k : ℕ). got (rulesIn (l .rules) k) (l .p)) (sym e)
+          ∙ sym (records-none (ruleItem (a .facts) (a .s .now)) (a .n) (l .i) (rulesIn (l .rules) (l .i)) (l .p) (omega arith))
+          ∙ l .inv .3;
+      array = sym (stored-none (ruleAt (a .facts) (a .s .now)) storeRule (a .n) (l .i) (l .p) (l .rules) (omega arith)) ∙ l .inv .4;
+    }
 
 pub rules-from-spec : {M : Type 1} → statement M
 rules-from-spec =

@@ -17,11 +17,11 @@ loop-holds c =
     let g = c .before .args in
     climbing-first (g .work .now) (g .last) (g .first) (g .second) (c .before .pre)
 
-greater-requires : tie.Need-greater-requires Inv-loop μ-loop
-greater-requires c κs = search needs
+greater-u32-requires : tie.Need-greater-u32-requires Inv-loop μ-loop
+greater-u32-requires c κs = search needs
 
-lesser-requires : tie.Need-lesser-requires Inv-loop μ-loop
-lesser-requires c κs = search needs
+lesser-u32-requires : tie.Need-lesser-u32-requires Inv-loop μ-loop
+lesser-u32-requires c κs = search needs
 
 cast-birth : tie.Need-cast-birth Inv-loop μ-loop
 cast-birth c = search needs
@@ -29,7 +29,7 @@ cast-birth c = search needs
 add-birth : tie.Need-add-birth Inv-loop μ-loop
 add-birth c =
     let F = c .before .before .before .loop .inv .falls in
-    omega (arith, c .before .greater .ensures, F .few, F .inside)
+    omega (arith, c .before .greater-u32 .ensures, F .few, F .inside)
 
 mul-birth : tie.Need-mul-birth Inv-loop μ-loop
 mul-birth c = search needs
@@ -37,7 +37,7 @@ mul-birth c = search needs
 shared-slice-read-birth : tie.Need-shared-slice-read-birth Inv-loop μ-loop
 shared-slice-read-birth c =
     let F = c .before .before .before .before .loop .inv .falls in
-    omega (arith, c .before .before .greater .ensures, F .few, F .inside, F .long)
+    omega (arith, c .before .before .greater-u32 .ensures, F .few, F .inside, F .long)
 
 cast-born : tie.Need-cast-born Inv-loop μ-loop
 cast-born c = search needs
@@ -45,24 +45,24 @@ cast-born c = search needs
 returns : tie.Need-returns Inv-loop μ-loop
 returns c =
     let l = c .before .before .before .before .before .loop in
-    let h = c .before .before .before .greater in
-    let k = c .before .before .lesser in
+    let h = c .before .before .before .greater-u32 in
+    let k = c .before .before .lesser-u32 in
     climbing-founders (l .inv) (c .before .before .before .before .loop-test .taken) (h .result) (k .result) (h .ensures) (k .ensures)
     (c .if1 .taken)
 
 loop-less : tie.Need-loop-less Inv-loop μ-loop
 loop-less c =
     let l = c .before .before .before .before .before .loop in
-    let h = c .before .before .before .greater in
-    let k = c .before .before .lesser in
+    let h = c .before .before .before .greater-u32 in
+    let k = c .before .before .lesser-u32 in
     climbing-lower (l .inv) (c .before .before .before .before .loop-test .taken) (h .result) (k .result) (h .ensures) (k .ensures)
     (c .if1 .left)
 
 loop-again : tie.Need-loop-again Inv-loop μ-loop
 loop-again c =
     let l = c .before .before .before .before .before .loop in
-    let h = c .before .before .before .greater in
-    let k = c .before .before .lesser in
+    let h = c .before .before .before .greater-u32 in
+    let k = c .before .before .lesser-u32 in
     climbing-up (l .inv) (c .before .before .before .before .loop-test .taken) (h .result) (k .result) (h .ensures) (k .ensures)
     (c .if1 .left)
 
@@ -76,8 +76,8 @@ apart-spec =
     Inv-loop
     μ-loop
     loop-holds
-    greater-requires
-    lesser-requires
+    greater-u32-requires
+    lesser-u32-requires
     cast-birth
     add-birth
     mul-birth

@@ -1,6 +1,7 @@
 -- `choose_first` goes down from place to place, so the first member of each class stays.
 use lib.ListN.{length}
-use Rattle.separations.specs.FirstMembers.{FirstsFound, firsts-none, firsts-class, firsts-next}
+use Rattle.class_splits.specs.ChosenPlaces.{chosen-class}
+use Rattle.separations.specs.FirstMembers.{FirstsFound, firsts-none, firsts-next}
 use borrow.Author.Needs.{needs}
 use native.Mathlib.Omega.{arith}
 use Prim.Native.Nat.{ℕ, _+_, _-_, _≤_}
@@ -43,7 +44,7 @@ slice-write-work c =
     omega (
       arith,
       c .class-at .ensures,
-      firsts-class (l .inv .2) (l .i - 1) (omega arith),
+      chosen-class (l .inv .2) (l .i - 1) (omega arith),
       b .pre .2 (l .i - 1) (omega arith),
       b .pre .1,
       l .inv .1,
@@ -59,8 +60,8 @@ loop-again c =
     let l = c .before .before .before .loop in
     let k : ℕ = l .i - 1 in
     let q : l .i ≡ k + 1 = omega arith in
-    let e : c .class-at .result ≡ classIn (g .work .now) k = c .class-at .ensures ∙ firsts-class (l .inv .2) k (omega arith) in
-    let x = firsts-next (g .work .now) (g .n) k (l .work) (subst (λ (z : ℕ). FirstsFound (g .work .now) (g .n) z (l .work)) q (l .inv .2)) (b .pre .1)
+    let e : c .class-at .result ≡ classIn (g .work .now) k = c .class-at .ensures ∙ chosen-class (l .inv .2) k (omega arith) in
+    let x = firsts-next (g .work .now) (g .n) k (l .work) (omega arith) (subst (λ (z : ℕ). FirstsFound (g .work .now) (g .n) z (l .work)) q (l .inv .2)) (b .pre .1)
     (c .class-at .result) e (omega (arith, b .pre .2 k (omega arith))) in
     (omega arith, x .only .long, x)
 

@@ -1,22 +1,19 @@
 -- After i turns the set is that of a pass over the first i rules.
-use Rattle.stores.specs.Stores.{pass}
-use Rattle.set_closure.specs.RuleTable.{rulesIn}
-use Rattle.set_closure.specs.PassLaws.{pass-rules-none, pass-rules-next}
 use borrow.Author.Needs.{needs}
 use native.Mathlib.Omega.{arith}
-use Prim.Native.Nat.{_-_, _≤_}
-use mathlib.Core.Path.{_≡_, sym}
+use Prim.Native.Nat.{_-_}
+use Rattle.set_closure.specs.PassLaws.{PassedTo, passed-none, passed-next, passed-all}
 use Rattle.set_closure.proofs.pass_once.Statement.{statement}
 use Rattle.set_closure.proofs.pass_once.Tie as tie
 
 abbrev Inv-loop : tie.InvT-loop
-Inv-loop rules n set s₀ i₀ s i = (i ≤ n) × (s ≡ pass (rulesIn rules i) set)
+Inv-loop rules n set s₀ i₀ s i = PassedTo rules n set i s
 
 abbrev μ-loop : tie.MeasureT-loop
 μ-loop rules n set s₀ i₀ s i = n - i
 
 loop-holds : tie.Need-loop-holds Inv-loop μ-loop
-loop-holds c = (search needs, sym (pass-rules-none (c .args .rules .now) (c .args .set)))
+loop-holds c = passed-none
 
 mul-fire : tie.Need-mul-fire Inv-loop μ-loop
 mul-fire c = search needs
@@ -50,13 +47,11 @@ loop-less c = search needs
 
 loop-again : tie.Need-loop-again Inv-loop μ-loop
 loop-again c =
-    let args = c .before .before .before .before .before .args in
-    (search needs, cc (pass-rules-next (args .rules .now) (c .before .before .before .before .loop .i) (args .set)))
+    let at-turn = c .before .before .before in
+    passed-next (at-turn .before .loop .inv) (at-turn .loop-test .taken) (c .fire .ensures)
 
 returns : tie.Need-returns Inv-loop μ-loop
-returns c =
-    let e : c .before .loop .i ≡ c .before .before .args .n = omega arith in
-    cc
+returns c = passed-all (c .before .loop .inv) (omega arith)
 
 pub pass-once-spec : {M : Type 1} → statement M
 pass-once-spec =

@@ -16,11 +16,11 @@ returns c =
     let cut : length (args .s .now) < args .at + 1 = omega arith in
     simp (lt-ltb _ _ cut)
 
-shared-slice-read-wide : tie.Need-shared-slice-read-wide
-shared-slice-read-wide c = search needs
+shared-slice-read-wide-u16 : tie.Need-shared-slice-read-wide-u16
+shared-slice-read-wide-u16 c = search needs
 
-wide-requires : tie.Need-wide-requires
-wide-requires c κs = search needs
+wide-u16-requires : tie.Need-wide-u16-requires
+wide-u16-requires c κs = search needs
 
 add-t3 : tie.Need-add-t3
 add-t3 c = search needs
@@ -29,8 +29,8 @@ returns-2 : tie.Need-returns-2
 returns-2 c =
     let args = c .before .before .before .before .args in
     let there : args .at + 1 ≤ length (args .s .now) = omega arith in
-    simp (le-ltb _ _ there, c .wide .ensures .0)
+    simp (le-ltb _ _ there, c .wide-u16 .ensures .0)
 
 pub byte-at-spec : {M : Type 1} → statement M
 byte-at-spec =
-    tie.close (tie.spec sub-if1 returns shared-slice-read-wide wide-requires add-t3 returns-2)
+    tie.close (tie.spec sub-if1 returns shared-slice-read-wide-u16 wide-u16-requires add-t3 returns-2)

@@ -16,20 +16,20 @@ returns c =
     let cut : length (args .s .now) < args .at + 2 = omega arith in
     simp (lt-ltb _ _ cut)
 
-shared-slice-read-wide : tie.Need-shared-slice-read-wide
-shared-slice-read-wide c = search needs
+shared-slice-read-wide-u16 : tie.Need-shared-slice-read-wide-u16
+shared-slice-read-wide-u16 c = search needs
 
-wide-requires : tie.Need-wide-requires
-wide-requires c κs = search needs
+wide-u16-requires : tie.Need-wide-u16-requires
+wide-u16-requires c κs = search needs
 
-add-wide : tie.Need-add-wide
-add-wide c = search needs
+add-wide-u16 : tie.Need-add-wide-u16
+add-wide-u16 c = search needs
 
-shared-slice-read-wide-2 : tie.Need-shared-slice-read-wide-2
-shared-slice-read-wide-2 c = search needs
+shared-slice-read-wide-u16-2 : tie.Need-shared-slice-read-wide-u16-2
+shared-slice-read-wide-u16-2 c = search needs
 
-wide-requires-2 : tie.Need-wide-requires-2
-wide-requires-2 c κs = search needs
+wide-u16-requires-2 : tie.Need-wide-u16-requires-2
+wide-u16-requires-2 c κs = search needs
 
 mul-t13 : tie.Need-mul-t13
 mul-t13 c = search needs
@@ -44,7 +44,7 @@ returns-2 : tie.Need-returns-2
 returns-2 c =
     let args = c .before .before .before .before .before .before .args in
     let there : args .at + 2 ≤ length (args .s .now) = omega arith in
-    simp (le-ltb _ _ there, c .wide2 .ensures .0, c .before .before .wide .ensures .0)
+    simp (le-ltb _ _ there, c .wide-u162 .ensures .0, c .before .before .wide-u16 .ensures .0)
 
 pub word-at-spec : {M : Type 1} → statement M
 word-at-spec =
@@ -52,11 +52,11 @@ word-at-spec =
     (tie.spec
     sub-if1
     returns
-    shared-slice-read-wide
-    wide-requires
-    add-wide
-    shared-slice-read-wide-2
-    wide-requires-2
+    shared-slice-read-wide-u16
+    wide-u16-requires
+    add-wide-u16
+    shared-slice-read-wide-u16-2
+    wide-u16-requires-2
     mul-t13
     add-t14
     add-t4

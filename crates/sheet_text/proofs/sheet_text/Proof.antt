@@ -1,8 +1,17 @@
 -- The text is that of what the call returned and wrote, in slices that are long enough.
+use mathlib.Core.Path.{_≡_, ap, sym, _∙_}
+use mathlib.Core.List.{List}
+use Prim.Native.Nat.{ℕ}
 use borrow.Author.Needs.{needs}
+use lib.ListN.{length, replicate, length-replicate}
+use Rattle.work_layout.specs.WorkLayout.{workEnd}
 use Rattle.sheet_text.specs.SheetTextLaws.{sheet-written}
 use Rattle.sheet_text.proofs.sheet_text.Statement.{statement}
 use Rattle.sheet_text.proofs.sheet_text.Tie as tie
+
+-- a slice of so many zeros is as long as the work slice
+room-length : {v : List ℕ} → v ≡ replicate workEnd 0 → workEnd ≡ length v
+room-length e = sym (ap length e ∙ length-replicate {A = ℕ} workEnd 0)
 
 answer-room-requires : tie.Need-answer-room-requires
 answer-room-requires c κs = search needs
@@ -33,7 +42,7 @@ returns c =
     let called = c .before .before .before .before .before .before .before in
     let works = called .before .before .before in
     let start = works .before .before .before .before in
-    sheet-written (start .args .sheet .now) (works .work-room .ensures) (works .before .answer-room .ensures) (called .compare .ensures)
+    sheet-written (start .args .sheet .now) (room-length (works .work-room .ensures)) (works .before .answer-room .ensures) (called .compare .ensures)
     (c .before .before .outcome-text .ensures)
 
 pub sheet-text-spec : {M : Type 1} → statement M

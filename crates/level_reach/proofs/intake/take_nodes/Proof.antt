@@ -7,10 +7,10 @@ use Rattle.level_reach.proofs.intake.take_nodes.Statement.{statement}
 use Rattle.level_reach.proofs.intake.take_nodes.Tie as tie
 
 abbrev Inv-loop : tie.InvT-loop
-Inv-loop w₀ nodes opened k₀ w k = (k ≤ 64) × (length w ≡ length w₀)
+Inv-loop w₀ table k₀ w k = (k ≤ 64) × (length w ≡ length w₀)
 
 abbrev μ-loop : tie.MeasureT-loop
-μ-loop w₀ nodes opened k₀ w k = 64 - k
+μ-loop w₀ table k₀ w k = 64 - k
 
 loop-holds : tie.Need-loop-holds Inv-loop μ-loop
 loop-holds c = search needs
