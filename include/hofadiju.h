@@ -1,8 +1,9 @@
-/* Hofadiju: compares two starts of a control sheet (document 01).
+/* Hofadiju: compares two starts of a control sheet (document 01), within document 01's limits or within
+ * the quotation desk's (document 02, card 3).
  *
  * Link with target/staticlib/libhofadiju.a, which `rt staticlib hofadiju` writes (x86-64 Linux). The
- * function keeps no state: any number of threads may call it at the same time, each with its own
- * slices. It allocates nothing. c/compare.c is an example.
+ * two functions keep no state: any number of threads may call them at the same time, each with its own
+ * slices. They allocate nothing. c/compare.c is an example.
  */
 #ifndef HOFADIJU_H
 #define HOFADIJU_H
@@ -14,8 +15,11 @@
 extern "C" {
 #endif
 
-/* An answer slice of this many bytes always suffices. */
+/* An answer slice of this many bytes always suffices for hofadiju_compare. */
 #define HOFADIJU_ANSWER_BYTES 10237
+
+/* An answer slice of this many bytes always suffices for hofadiju_compare_desk. */
+#define HOFADIJU_DESK_ANSWER_BYTES 1277
 
 /* The work slice must have at least this many numbers of 32 bits. */
 #define HOFADIJU_WORK_NUMBERS 16384
@@ -23,7 +27,7 @@ extern "C" {
 /* The longest sheet that is read has this many bytes; every longer one is refused. */
 #define HOFADIJU_LONGEST_SHEET 724
 
-/* What the function returns: HOFADIJU_REPORT, or the number of a refusal. The place of a refusal is
+/* What the functions return: HOFADIJU_REPORT, or the number of a refusal. The place of a refusal is
  * the byte of the sheet at which the field begins, unless it is said otherwise. */
 enum hofadiju_number {
     HOFADIJU_REPORT = 0,            /* a report was written */
@@ -43,8 +47,8 @@ enum hofadiju_number {
     HOFADIJU_EXTRA_BYTES = 13,      /* bytes after the last start; the place is the first of them */
     HOFADIJU_ABSENT_START = 14,     /* a chosen start is not on the sheet; place 0 for left, 1 for right */
     HOFADIJU_WIDE_NODE = 15,        /* a node opens to more than 8 threads; the place is its kind byte */
-    HOFADIJU_TOO_LARGE = 21,        /* more than 512 configurations, one of more than 8 threads, or more
-                                       than 4096 moves in all; place 0 */
+    HOFADIJU_TOO_LARGE = 21,        /* more than 512 configurations (64 for the desk), one of more than 8
+                                       threads, or more than 4096 moves in all (512 for the desk); place 0 */
     HOFADIJU_ANSWER_SHORT = 22,     /* the answer slice is too short; the place is the length needed */
     HOFADIJU_WORK_SHORT = 23        /* the work slice is too short; place 0 */
 };
@@ -94,6 +98,18 @@ enum hofadiju_result {
 uint32_t hofadiju_compare(const uint8_t *sheet, size_t sheet_len, size_t left, size_t right,
                           uint8_t *answer, size_t answer_len, uint32_t *work, size_t work_len,
                           size_t result[6]);
+
+/* Compares as hofadiju_compare does, within the desk's limits: 64 configurations and 512 moves in all in
+ * place of 512 and 4096, and 8 threads as before. 21 goes by these numbers. All else is the same: the
+ * slices and their layout, the length of the work slice, the other refusals, the places, and the order,
+ * which is the refusals of the sheet, 14, 23, 21, 22.
+ *
+ * Where both functions report, they return and write the same. Where this one gives 21, the other may
+ * report, or give 21, or give 22 for a short answer slice; otherwise the two refuse alike.
+ */
+uint32_t hofadiju_compare_desk(const uint8_t *sheet, size_t sheet_len, size_t left, size_t right,
+                               uint8_t *answer, size_t answer_len, uint32_t *work, size_t work_len,
+                               size_t result[6]);
 
 #ifdef __cplusplus
 }

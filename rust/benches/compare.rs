@@ -5,10 +5,10 @@
 //! Both are given the same call: reading included, the same answer and work slices, the work slice
 //! cleared by the call; the reference also keeps its own buffers from call to call. For each sheet
 //! the two take turns, and the least time of several turns counts. A directory's `*.sheet` files form
-//! a class of their own.
+//! a class of their own. In classes called desk both are given the desk's limits.
 
-use hofadiju::{compare_into, ANSWER_BYTES, WORK_NUMBERS};
-use reference::fast::Comparer;
+use hofadiju::{compare_desk_into, compare_into, Outcome, Refusal, ANSWER_BYTES, DESK_ANSWER_BYTES, WORK_NUMBERS};
+use reference::{fast::Comparer, Limits};
 use sheets::{alike_pair, draw, Rng, Shape, SHAPES};
 use std::hint::black_box;
 use std::path::{Path, PathBuf};
@@ -23,9 +23,30 @@ struct Slices {
     work: Vec<u32>,
 }
 
+type CompareInto = fn(&[u8], usize, usize, &mut [u8], &mut [u32]) -> Result<Outcome, Refusal>;
+
+/// One of the library's two calls, the reference's limits for it and the length of its answer slice.
+#[derive(Clone, Copy)]
+struct Call {
+    function: CompareInto,
+    limits: Limits,
+    answer: usize,
+}
+
+const DOCUMENT: Call = Call { function: compare_into, limits: Limits::DOCUMENT, answer: ANSWER_BYTES };
+const DESK: Call = Call { function: compare_desk_into, limits: Limits::DESK, answer: DESK_ANSWER_BYTES };
+
 struct Class {
     name: String,
+    call: Call,
     sheets: Vec<(String, Vec<u8>)>,
+}
+
+impl Class {
+    /// The same sheets for the desk's call.
+    fn desk(&self) -> Class {
+        Class { name: format!("{}, desk", self.name), call: DESK, sheets: self.sheets.clone() }
+    }
 }
 
 /// The least time of one call of each, in nanoseconds, and whether the sheet was refused.
@@ -35,13 +56,13 @@ struct Measured {
     refused: bool,
 }
 
-fn library(sheet: &[u8], slices: &mut Slices) -> Result<usize, u32> {
-    let outcome = compare_into(sheet, 0, 1, &mut slices.answer, &mut slices.work);
+fn library(call: Call, sheet: &[u8], slices: &mut Slices) -> Result<usize, u32> {
+    let outcome = (call.function)(sheet, 0, 1, &mut slices.answer[..call.answer], &mut slices.work);
     outcome.map(|outcome| outcome.length).map_err(|refusal| refusal.number())
 }
 
-fn peer(sheet: &[u8], slices: &mut Slices, comparer: &mut Comparer) -> Result<usize, u32> {
-    match comparer.compare(sheet, 0, 1, &mut slices.answer, &mut slices.work) {
+fn peer(call: Call, sheet: &[u8], slices: &mut Slices, comparer: &mut Comparer) -> Result<usize, u32> {
+    match comparer.compare(call.limits, sheet, 0, 1, &mut slices.answer[..call.answer], &mut slices.work) {
         (0, result) => Ok(result[4]),
         (number, _) => Err(number),
     }
@@ -60,17 +81,17 @@ fn calls_in_a_turn(once: f64) -> usize {
     (TURN.as_nanos() as f64 / once.max(1.0)).clamp(1.0, 10_000.0) as usize
 }
 
-fn measure(sheet: &[u8], slices: &mut Slices, comparer: &mut Comparer) -> Measured {
-    let outcome = library(sheet, slices);
+fn measure(call: Call, sheet: &[u8], slices: &mut Slices, comparer: &mut Comparer) -> Measured {
+    let outcome = library(call, sheet, slices);
     let bytes = slices.answer.clone();
-    assert_eq!(peer(sheet, slices, comparer), outcome, "{sheet:?}");
+    assert_eq!(peer(call, sheet, slices, comparer), outcome, "{sheet:?}");
     assert!(bytes == slices.answer, "{sheet:?}");
-    let library_calls = calls_in_a_turn(time(1, || library(sheet, slices)));
-    let peer_calls = calls_in_a_turn(time(1, || peer(sheet, slices, comparer)));
+    let library_calls = calls_in_a_turn(time(1, || library(call, sheet, slices)));
+    let peer_calls = calls_in_a_turn(time(1, || peer(call, sheet, slices, comparer)));
     let mut least = Measured { library: f64::MAX, peer: f64::MAX, refused: outcome.is_err() };
     for _ in 0..TURNS {
-        least.library = least.library.min(time(library_calls, || library(sheet, slices)));
-        least.peer = least.peer.min(time(peer_calls, || peer(sheet, slices, comparer)));
+        least.library = least.library.min(time(library_calls, || library(call, sheet, slices)));
+        least.peer = least.peer.min(time(peer_calls, || peer(call, sheet, slices, comparer)));
     }
     least
 }
@@ -96,7 +117,7 @@ fn micros(nanos: f64) -> String {
 fn drawn(name: &str, count: usize, seed: u64, shape: &Shape, make: fn(&Shape, &mut Rng) -> sheets::Draft) -> Class {
     let mut rng = Rng::new(seed);
     let sheets = (0..count).map(|i| (format!("{name} {i}"), make(shape, &mut rng).bytes())).collect();
-    Class { name: name.to_string(), sheets }
+    Class { name: name.to_string(), call: DOCUMENT, sheets }
 }
 
 fn found(folder: &Path) -> Class {
@@ -106,7 +127,7 @@ fn found(folder: &Path) -> Class {
     files.sort();
     let name = |file: &Path| file.file_stem().unwrap().to_string_lossy().into_owned();
     let sheets = files.iter().map(|file| (name(file), std::fs::read(file).unwrap())).collect();
-    Class { name: name(folder), sheets }
+    Class { name: name(folder), call: DOCUMENT, sheets }
 }
 
 fn shape(name: &str) -> &'static Shape {
@@ -115,14 +136,17 @@ fn shape(name: &str) -> &'static Shape {
 
 fn main() {
     let here = Path::new(env!("CARGO_MANIFEST_DIR"));
-    let mut classes = vec![
-        found(&here.join("../samples")),
+    let random = [
         drawn("small random", 400, 1, shape("small"), draw),
         drawn("medium random", 200, 2, shape("medium"), draw),
         drawn("large random", 100, 3, shape("large"), draw),
         drawn("alike pairs", 200, 4, shape("medium"), alike_pair),
-        found(&here.join("benches/worst")),
     ];
+    let desk: Vec<Class> = random.iter().map(Class::desk).collect();
+    let mut classes = vec![found(&here.join("../samples"))];
+    classes.extend(random);
+    classes.push(found(&here.join("benches/worst")));
+    classes.extend(desk);
     let words = std::env::args().skip(1).filter(|word| !word.starts_with('-'));
     classes.extend(words.map(|word| found(Path::new(&word))));
 
@@ -134,7 +158,7 @@ fn main() {
     println!("|---|---|---|---|---|---|---|---|");
     for class in &classes {
         let measured: Vec<Measured> =
-            class.sheets.iter().map(|(_, sheet)| measure(sheet, &mut slices, &mut comparer)).collect();
+            class.sheets.iter().map(|(_, sheet)| measure(class.call, sheet, &mut slices, &mut comparer)).collect();
         if measured.is_empty() {
             continue;
         }

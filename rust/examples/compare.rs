@@ -1,19 +1,26 @@
 //! Reads a sheet from a file and compares two of its starts.
 //!
-//!     cargo run --release --example compare -- ../samples/k-2-4.sheet [LEFT RIGHT]
+//!     cargo run --release --example compare -- [--desk] ../samples/k-2-4.sheet [LEFT RIGHT]
 //!
-//! Without LEFT and RIGHT it compares starts 0 and 1. The exit status is 0 for SAME, 1 for DIFF, 2 for
-//! a refusal and 3 where the file or the numbers cannot be read.
+//! Without LEFT and RIGHT it compares starts 0 and 1; with --desk it does so within the desk's limits.
+//! The exit status is 0 for SAME, 1 for DIFF, 2 for a refusal and 3 where the file or the numbers
+//! cannot be read.
 
-use hofadiju::{compare, Verdict};
+use hofadiju::{compare, compare_desk, Refusal, Report, Verdict};
 use std::process::ExitCode;
+
+type Compare = fn(&[u8], usize, usize) -> Result<Report, Refusal>;
 
 fn main() -> ExitCode {
     let words: Vec<String> = std::env::args().skip(1).collect();
-    let (file, left, right) = match words.as_slice() {
+    let (compare, words) = match words.as_slice() {
+        [option, rest @ ..] if option == "--desk" => (compare_desk as Compare, rest),
+        all => (compare as Compare, all),
+    };
+    let (file, left, right) = match words {
         [file] => (file, Some(0), Some(1)),
         [file, left, right] => (file, left.parse().ok(), right.parse().ok()),
-        _ => return failed("usage: compare FILE [LEFT RIGHT]"),
+        _ => return failed("usage: compare [--desk] FILE [LEFT RIGHT]"),
     };
     let (Some(left), Some(right)) = (left, right) else {
         return failed("LEFT and RIGHT are the numbers of two starts");

@@ -9,7 +9,7 @@
 //! FACTS facts, and where BOTH is `no` none with a both, so that slow sheets of other kinds are found.
 
 use hofadiju::{compare_into, ANSWER_BYTES, WORK_NUMBERS};
-use reference::fast::Comparer;
+use reference::{fast::Comparer, Limits};
 use sheets::{draw, Draft, Rng, BOTH, SHAPES};
 use std::time::{Duration, Instant};
 
@@ -65,7 +65,7 @@ impl Meter {
 
     fn reference(&mut self, sheet: &[u8]) -> Duration {
         let before = Instant::now();
-        self.comparer.compare(sheet, 0, 1, &mut self.answer, &mut self.work);
+        self.comparer.compare(Limits::DOCUMENT, sheet, 0, 1, &mut self.answer, &mut self.work);
         before.elapsed()
     }
 }

@@ -5,6 +5,9 @@
 //! behave alike ([`Verdict::Same`]) or not ([`Verdict::Diff`]), with the classes of all configurations
 //! that matter and, for `Diff`, a trail that tells the two apart.
 //!
+//! [`compare_desk`] does the same within smaller limits, those of the quotation desk: 64 configurations
+//! and 512 moves in place of 512 and 4,096. Where both report, the reports are the same.
+//!
 //! This crate is a thin safe wrapper around a static library that is written and proved in Rattle. It
 //! has no dependencies. Calls share no state, so any number of threads may call at the same time.
 //!
@@ -47,8 +50,11 @@ mod report;
 pub use refusal::{Reason, Refusal};
 pub use report::{Member, Report, Side, Step, Verdict};
 
-/// An answer slice of this many bytes always suffices.
+/// An answer slice of this many bytes always suffices for [`compare_into`].
 pub const ANSWER_BYTES: usize = 10_237;
+
+/// An answer slice of this many bytes always suffices for [`compare_desk_into`].
+pub const DESK_ANSWER_BYTES: usize = 1_277;
 
 /// The work slice must have at least this many numbers.
 pub const WORK_NUMBERS: usize = 16_384;
@@ -68,9 +74,25 @@ extern "C" {
         work_len: usize,
         result: *mut [usize; 6],
     ) -> u32;
+
+    fn hofadiju_compare_desk(
+        sheet: *const u8,
+        sheet_len: usize,
+        left: usize,
+        right: usize,
+        answer: *mut u8,
+        answer_len: usize,
+        work: *mut u32,
+        work_len: usize,
+        result: *mut [usize; 6],
+    ) -> u32;
 }
 
-/// What [`compare_into`] gives beside the bytes in the answer slice.
+/// One of the library's two functions.
+type Call =
+    unsafe extern "C" fn(*const u8, usize, usize, usize, *mut u8, usize, *mut u32, usize, *mut [usize; 6]) -> u32;
+
+/// What [`compare_into`] and [`compare_desk_into`] give beside the bytes in the answer slice.
 #[derive(Clone, Copy, Debug, PartialEq, Eq, Hash)]
 pub struct Outcome {
     /// Whether the two starts behave alike.
@@ -86,7 +108,8 @@ pub struct Outcome {
     pub length: usize,
 }
 
-/// Compares the starts `left` and `right` of a sheet.
+/// Compares the starts `left` and `right` of a sheet. The comparison may have 512 configurations and
+/// 4,096 moves.
 ///
 /// # Errors
 ///
@@ -94,9 +117,54 @@ pub struct Outcome {
 /// is refused; see [`Reason`]. The refusals [`Reason::AnswerShort`] and [`Reason::WorkShort`] do not
 /// occur here.
 pub fn compare(sheet: &[u8], left: usize, right: usize) -> Result<Report, Refusal> {
-    let mut answer = vec![0; ANSWER_BYTES];
+    report_by(hofadiju_compare, ANSWER_BYTES, sheet, left, right)
+}
+
+/// Compares as [`compare`] does, within the limits of the quotation desk: the comparison may have 64
+/// configurations and 512 moves. Where both functions report, the reports are the same.
+///
+/// # Example
+///
+/// Six threads, each of which posts a fact of its own, have 64 configurations; five of the same threads
+/// beside them have 32 more.
+///
+/// ```
+/// use hofadiju::{compare, compare_desk, Reason};
+///
+/// let mut sheet: Vec<u8> = Vec::new();
+/// sheet.push(6); // six facts, without a name
+/// sheet.extend_from_slice(&[b' '; 6 * 8]);
+/// sheet.push(0); // no rules
+/// sheet.push(6); // node i: tell the set {fact i}
+/// for fact in 0..6 {
+///     sheet.extend_from_slice(&[1, 1 << fact, 0, 0, 0]);
+/// }
+/// sheet.push(3); // three starts at the empty store
+/// sheet.extend_from_slice(&[0, 0, 6, 0, 1, 2, 3, 4, 5]);
+/// sheet.extend_from_slice(&[0, 0, 6, 5, 4, 3, 2, 1, 0]);
+/// sheet.extend_from_slice(&[0, 0, 5, 0, 1, 2, 3, 4]);
+///
+/// let report = compare_desk(&sheet, 0, 1)?;
+/// assert_eq!(report.members.len(), 64);
+/// assert_eq!(report, compare(&sheet, 0, 1)?);
+///
+/// assert_eq!(compare_desk(&sheet, 0, 2).unwrap_err().reason, Reason::TooLarge);
+/// assert_eq!(compare(&sheet, 0, 2)?.members.len(), 96);
+/// # Ok::<(), hofadiju::Refusal>(())
+/// ```
+///
+/// # Errors
+///
+/// As [`compare`], but [`Reason::TooLarge`] by the desk's limits.
+pub fn compare_desk(sheet: &[u8], left: usize, right: usize) -> Result<Report, Refusal> {
+    report_by(hofadiju_compare_desk, DESK_ANSWER_BYTES, sheet, left, right)
+}
+
+/// The report of a call for which an answer slice of so many bytes suffices.
+fn report_by(call: Call, room: usize, sheet: &[u8], left: usize, right: usize) -> Result<Report, Refusal> {
+    let mut answer = vec![0; room];
     let mut work = vec![0; WORK_NUMBERS];
-    let outcome = compare_into(sheet, left, right, &mut answer, &mut work)?;
+    let outcome = outcome_by(call, sheet, left, right, &mut answer, &mut work)?;
     Ok(outcome.report(&answer).expect("the library writes the answer's layout"))
 }
 
@@ -120,12 +188,44 @@ pub fn compare_into(
     answer: &mut [u8],
     work: &mut [u32],
 ) -> Result<Outcome, Refusal> {
+    outcome_by(hofadiju_compare, sheet, left, right, answer, work)
+}
+
+/// Compares as [`compare_desk`] does, and allocates nothing.
+///
+/// `answer` and `work` are used as by [`compare_into`], and `work` must be as long as there.
+/// [`DESK_ANSWER_BYTES`] bytes of `answer` always suffice.
+///
+/// # Errors
+///
+/// As [`compare_desk`], and also [`Reason::WorkShort`] and [`Reason::AnswerShort`]. A refusal leaves
+/// `answer` untouched. Where the desk's limits are passed the refusal is [`Reason::TooLarge`], also
+/// where `answer` is too short.
+pub fn compare_desk_into(
+    sheet: &[u8],
+    left: usize,
+    right: usize,
+    answer: &mut [u8],
+    work: &mut [u32],
+) -> Result<Outcome, Refusal> {
+    outcome_by(hofadiju_compare_desk, sheet, left, right, answer, work)
+}
+
+/// What one of the library's functions gives on these slices.
+fn outcome_by(
+    call: Call,
+    sheet: &[u8],
+    left: usize,
+    right: usize,
+    answer: &mut [u8],
+    work: &mut [u32],
+) -> Result<Outcome, Refusal> {
     let mut result = [0; 6];
     // SAFETY: each pointer comes with its length from a reference, so it is not null, is aligned and
-    // valid for that length, and the exclusive references overlap nothing. The function reads `sheet`,
-    // writes within `answer`, `work` and `result`, and keeps no pointer.
+    // valid for that length, and the exclusive references overlap nothing. Both of the library's
+    // functions read `sheet`, write within `answer`, `work` and `result`, and keep no pointer.
     let number = unsafe {
-        hofadiju_compare(
+        call(
             sheet.as_ptr(),
             sheet.len(),
             left,

@@ -38,8 +38,8 @@ pub enum Reason {
     AbsentStart = 14,
     /// A node opens to more than eight threads.
     WideNode = 15,
-    /// More than 512 configurations, a configuration of more than eight threads, or more than 4,096
-    /// moves.
+    /// More than 512 configurations (64 for the desk), a configuration of more than eight threads, or
+    /// more than 4,096 moves (512 for the desk).
     TooLarge = 21,
     /// The answer slice is shorter than the report.
     AnswerShort = 22,
@@ -127,8 +127,8 @@ impl fmt::Display for Refusal {
             Reason::WideNode => write!(f, "byte {place}: the node opens to more than 8 threads"),
             Reason::TooLarge => write!(
                 f,
-                "the comparison is too large: more than 512 configurations, more than 8 threads in one of them, \
-                 or more than 4096 moves in all"
+                "the comparison is too large: more than 512 configurations (64 for the desk), more than 8 threads \
+                 in one of them, or more than 4096 moves in all (512 for the desk)"
             ),
             Reason::AnswerShort => write!(f, "the answer slice is too short: the report has {place} bytes"),
             Reason::WorkShort => write!(f, "the work slice is shorter than 16384 numbers"),

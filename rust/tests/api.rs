@@ -1,6 +1,9 @@
 //! The crate's own functions: values, texts, and document 01's known sheets.
 
-use hofadiju::{compare, compare_into, Reason, Refusal, Report, Side, Verdict, ANSWER_BYTES, WORK_NUMBERS};
+use hofadiju::{
+    compare, compare_desk, compare_desk_into, compare_into, Outcome, Reason, Refusal, Report, Side, Verdict,
+    ANSWER_BYTES, DESK_ANSWER_BYTES, WORK_NUMBERS,
+};
 use sheets::{alike_pair, Draft, Rng, ASK, BOTH, EITHER, SHAPES, STOP, TELL};
 use std::path::Path;
 
@@ -74,7 +77,11 @@ fn samples() {
         if path.extension().is_none_or(|ending| ending != "sheet") {
             continue;
         }
-        let printed = match compare(&std::fs::read(&path).unwrap(), 0, 1) {
+        let sheet = std::fs::read(&path).unwrap();
+        // The samples are small enough for the desk, or too large for both.
+        let outcome = compare(&sheet, 0, 1);
+        assert_eq!(outcome, compare_desk(&sheet, 0, 1));
+        let printed = match outcome {
             Ok(report) => report.to_string(),
             Err(refusal) => refusal.line() + "\n",
         };
@@ -105,10 +112,18 @@ fn reasons_have_numbers_and_texts() {
     assert!(error.to_string().contains("only 0 bytes"));
 }
 
+type Compare = fn(&[u8], usize, usize) -> Result<Report, Refusal>;
+type CompareInto = fn(&[u8], usize, usize, &mut [u8], &mut [u32]) -> Result<Outcome, Refusal>;
+
 #[test]
 fn the_two_functions_agree() {
+    functions_agree(compare, compare_into, ANSWER_BYTES);
+    functions_agree(compare_desk, compare_desk_into, DESK_ANSWER_BYTES);
+}
+
+fn functions_agree(compare: Compare, compare_into: CompareInto, room: usize) {
     let mut rng = Rng::new(31);
-    let mut answer = vec![0xEE; ANSWER_BYTES];
+    let mut answer = vec![0xEE; room];
     let mut work = vec![0xEEEE; WORK_NUMBERS];
     for i in 0..2_000 {
         let bytes = alike_pair(&SHAPES[i % SHAPES.len()], &mut rng).bytes();
@@ -131,6 +146,23 @@ fn the_two_functions_agree() {
 }
 
 #[test]
+fn the_desk_reports_the_same_or_is_too_large() {
+    let mut rng = Rng::new(32);
+    let (mut reports, mut too_large) = (0, 0);
+    for i in 0..2_000 {
+        let bytes = alike_pair(&SHAPES[i % SHAPES.len()], &mut rng).bytes();
+        match (compare_desk(&bytes, 0, 1), compare(&bytes, 0, 1)) {
+            (Err(Refusal { reason: Reason::TooLarge, place: 0 }), Ok(_)) => too_large += 1,
+            (desk, other) => {
+                assert_eq!(desk, other);
+                reports += usize::from(desk.is_ok());
+            }
+        }
+    }
+    assert!(reports > 1_000 && too_large > 0);
+}
+
+#[test]
 fn short_slices() {
     let bytes = sheet_k((0, &[2]), (0, &[4]));
     let mut work = vec![7; WORK_NUMBERS];
@@ -138,6 +170,10 @@ fn short_slices() {
     assert_eq!(refusal, Refusal { reason: Reason::AnswerShort, place: 38 });
     assert!(work.iter().all(|&number| number == 0));
     let refusal = compare_into(&bytes, 0, 1, &mut [], &mut []).unwrap_err();
+    assert_eq!(refusal, Refusal { reason: Reason::WorkShort, place: 0 });
+    let refusal = compare_desk_into(&bytes, 0, 1, &mut [], &mut work).unwrap_err();
+    assert_eq!(refusal, Refusal { reason: Reason::AnswerShort, place: 38 });
+    let refusal = compare_desk_into(&bytes, 0, 1, &mut [], &mut []).unwrap_err();
     assert_eq!(refusal, Refusal { reason: Reason::WorkShort, place: 0 });
 }
 

@@ -11,11 +11,6 @@ fn bare() -> Draft {
     Draft { facts: 0, rules: vec![], nodes: vec![(STOP, 0, 0)], starts: vec![] }
 }
 
-/// So many asks of a set, one after the other; gives the first.
-fn chain(draft: &mut Draft, length: usize, set: u16) -> u8 {
-    (0..length).fold(0, |next, _| draft.push(ASK, set, next)) as u8
-}
-
 fn compare(harness: &mut Harness, draft: &Draft) {
     assert!(draft.nodes.len() <= 64);
     assert!(matches!(harness.compare_with_all_lengths(&draft.bytes(), 0, 1).0, 0 | 21));
@@ -30,7 +25,7 @@ fn chains_beside_each_other() {
             let mut draft = Draft { facts, ..bare() };
             let set = |i: usize| if facts == 0 { 0 } else { 1 << (i % facts) };
             let firsts: Vec<u8> =
-                lengths.iter().enumerate().map(|(i, &length)| chain(&mut draft, length, set(i))).collect();
+                lengths.iter().enumerate().map(|(i, &length)| draft.chain(length, set(i), 0)).collect();
             let mut shorter = firsts.clone();
             *shorter.last_mut().unwrap() -= 1;
             draft.starts = vec![(0, firsts), (0, shorter)];

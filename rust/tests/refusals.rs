@@ -1,4 +1,5 @@
-//! Each refusal of document 01, its condition just met and just not met.
+//! Each refusal of document 01, its condition just met and just not met. The desk's own numbers for 21
+//! are in desk.rs.
 
 mod common;
 
@@ -23,11 +24,19 @@ const NODES: usize = 22;
 const STARTS: usize = 38;
 
 fn number(draft: &Draft) -> (u32, usize) {
-    Harness::new(1).number(&draft.bytes())
+    number_of(&draft.bytes())
 }
 
+/// For document 01's call and for the desk's.
+fn harnesses() -> [Harness; 2] {
+    [Harness::new(1), Harness::desk(1)]
+}
+
+/// The desk's call is held too: it gives the same, or 21 beside a report.
 fn number_of(bytes: &[u8]) -> (u32, usize) {
-    Harness::new(1).number(bytes)
+    let [number, desk] = harnesses().map(|mut harness| harness.number(bytes));
+    assert!(desk == number || desk == (21, 0) && number == (0, 0), "{desk:?} {number:?} {bytes:?}");
+    number
 }
 
 /// The good sheet with one byte changed.
@@ -233,9 +242,11 @@ fn refusal_13_extra_bytes() {
 
 #[test]
 fn refusal_14_absent_starts() {
-    let mut harness = Harness::new(1);
+    let mut harnesses = harnesses();
     let mut chosen = |bytes: &[u8], left, right| {
-        let (number, result) = harness.compare_with_all_lengths(bytes, left, right);
+        let [(number, result), desk] =
+            harnesses.each_mut().map(|harness| harness.compare_with_all_lengths(bytes, left, right));
+        assert_eq!((number, result), desk);
         (number, result[5])
     };
     let bytes = good().bytes();
@@ -270,19 +281,14 @@ fn refusal_15_wide_nodes() {
 fn refusal_21_members() {
     // Two chains of asks, 15 and 31 long: 16 by 32 places.
     let mut draft = Draft { facts: 0, rules: vec![], nodes: vec![(STOP, 0, 0), (TELL, 0, 0)], starts: vec![] };
-    let first = chain(&mut draft, 15, 0);
-    let second = chain(&mut draft, 31, 0);
+    let first = draft.chain(15, 0, 0);
+    let second = draft.chain(31, 0, 0);
     draft.starts = vec![(0, vec![first, second]), (0, vec![second, first])];
     assert_eq!(plain::size(&draft.bytes(), 0, 1).map(|size| size.0), Some(512));
     assert_eq!(number(&draft), (0, 0));
     draft.starts[1] = (0, vec![1]);
     assert_eq!(plain::size(&draft.bytes(), 0, 1).map(|size| size.0), Some(513));
     assert_eq!(number(&draft), (21, 0));
-}
-
-/// So many asks of nothing, one after the other, that end at a node; gives the first.
-fn chain(draft: &mut Draft, length: usize, end: u16) -> u8 {
-    (0..length).fold(end, |next, _| draft.push(ASK, 0, next)) as u8
 }
 
 #[test]
@@ -296,8 +302,8 @@ fn refusal_21_moves() {
         draft.nodes[ask as usize].2 = wide;
     }
     let end = draft.push(STOP, 0, 0);
-    let short = chain(&mut draft, 1, 0);
-    let long = chain(&mut draft, 21, end);
+    let short = draft.chain(1, 0, 0);
+    let long = draft.chain(21, 0, end);
     draft.starts = vec![(0, vec![wide as u8, wide as u8]), (0, vec![short, long])];
     assert_eq!(plain::size(&draft.bytes(), 0, 1).map(|size| size.1), Some(4_096));
     assert_eq!(number(&draft), (0, 0));
@@ -344,12 +350,15 @@ fn refusal_21_threads() {
 
 #[test]
 fn refusals_22_and_23_slices() {
-    let mut harness = Harness::new(1);
+    let mut harnesses = harnesses();
     let bytes = good().bytes();
-    let judgement = harness.judge(&bytes, 0, 1);
+    let judgement = harnesses[0].judge(&bytes, 0, 1);
+    assert_eq!(judgement, harnesses[1].judge(&bytes, 0, 1));
     let (_, [_, _, _, _, length, _]) = judgement.returned(ANSWER, WORK);
     let mut held = |answer_len, work_len| {
-        let (number, result) = harness.hold(&judgement, &bytes, (0, 1), answer_len, work_len);
+        let [(number, result), desk] =
+            harnesses.each_mut().map(|harness| harness.hold(&judgement, &bytes, (0, 1), answer_len, work_len));
+        assert_eq!((number, result), desk);
         (number, result[5])
     };
     for answer_len in 0..length {
@@ -377,10 +386,11 @@ fn refusal_23_before_21_and_after_14() {
         starts: vec![(0, vec![1]), (0, vec![1])],
     };
     let bytes = growing.bytes();
-    let mut harness = Harness::new(1);
-    let judgement = harness.judge(&bytes, 0, 1);
-    assert_eq!(harness.hold(&judgement, &bytes, (0, 1), 0, WORK - 1), (23, [0; 6]));
-    assert_eq!(harness.hold(&judgement, &bytes, (0, 1), 0, WORK), (21, [0; 6]));
-    let judgement = harness.judge(&bytes, 0, 2);
-    assert_eq!(harness.hold(&judgement, &bytes, (0, 2), 0, 0), (14, [0, 0, 0, 0, 0, 1]));
+    for mut harness in harnesses() {
+        let judgement = harness.judge(&bytes, 0, 1);
+        assert_eq!(harness.hold(&judgement, &bytes, (0, 1), 0, WORK - 1), (23, [0; 6]));
+        assert_eq!(harness.hold(&judgement, &bytes, (0, 1), 0, WORK), (21, [0; 6]));
+        let judgement = harness.judge(&bytes, 0, 2);
+        assert_eq!(harness.hold(&judgement, &bytes, (0, 2), 0, 0), (14, [0, 0, 0, 0, 0, 1]));
+    }
 }

@@ -1,3 +1,4 @@
 pub mod AnswerNumbers
 pub mod KnownNumbers
 pub mod AnswerNumberLaws
+pub mod HandedLaws

@@ -12,7 +12,7 @@ use Rattle.sheets.specs.Refusals.{largeSet, shortAnswer, shortWork}
 use Rattle.sheets.specs.Sheet as spec
 use Rattle.sheets.specs.WellFormed.{Admissible}
 use Rattle.sheet_reading.specs.Reading.{Reading, got, refused, readChoice}
-use Rattle.sheet_reading.specs.SheetRead.{choice-reads}
+use Rattle.sheet_reading.specs.SheetRead.{same-sheet, choice-reads}
 use Rattle.sheet_laws.specs.ReadingLaws.{written-admissible}
 use Rattle.sheet_laws.specs.RefusalNumbers.{number-low}
 use Rattle.comparison.specs.CallLimits.{Limits, workLength}
@@ -33,12 +33,9 @@ use Rattle.call_frame.specs.declared.Begun.the-variants.{Set, Refused}
 use Rattle.call_frame.specs.declared.Started.{Started}
 use Rattle.call_frame.specs.Begun.{BegunSet, BegunRefused, too-short, too-large, BegunAs, SetBegun, by-sheet, by-set, StartsAre, ChoiceBegun, PairBegun}
 
--- no sheet that was read is refused, and one byte string is one sheet
+-- no sheet that was read is refused
 refused-never : {number place end : ℕ} {sheet : spec.Sheet} → _≡_ {A = Reading spec.Sheet} (refused number place) (got sheet end) → ⊥
 refused-never e = let z : _≡_ {A = ℕ} 0 1 = cc in omega arith
-
-same-sheet : {sheet other : spec.Sheet} {end at : ℕ} → _≡_ {A = Reading spec.Sheet} (got sheet end) (got other at) → sheet ≡ other
-same-sheet e = cc
 
 -- ---- how a call begins
 -- a set that passes a limit, and the work slice cleared

@@ -1,1 +1,3 @@
 pub mod CallPromise
+pub mod TwoCalls
+pub mod TwoCallSentences

@@ -5,13 +5,14 @@ use Prim.Native.Nat.{ℕ}
 use native.Mathlib.Omega.{arith}
 use lib.ListN.{length, drop}
 use Rattle.sheets.specs.Sheet.{Sheet, start}
-use Rattle.comparison.specs.CallLimits.{Limits, NoGreater, limits}
+use Rattle.comparison.specs.CallLimits.{Limits, NoGreater, limits, deskLimits}
 use Rattle.comparison.specs.Report as spec
 use Rattle.comparison.specs.Report.{Verdict, SAME, DIFF, reportBytes, reportLength, Compares}
 use Rattle.comparison.specs.Outcome.{reported, refusal, workRefused}
-use Rattle.comparison.specs.Call.{compareWith, compare, answerAfter}
+use Rattle.comparison.specs.Call.{compareWith, compare, compareDesk, answerAfter}
 use Rattle.comparison.specs.Promise.{Refuses, Reports, Faithful}
 use Rattle.comparison_laws.specs.CallTheorem.{refuses-exactly, reports-exactly, call-faithful}
+use Rattle.comparison_laws.specs.LimitLaws.{own-limits, desk-no-greater}
 use Rattle.answers.specs.declared.Reported.{Reported}
 use Rattle.answers.specs.declared.Answer.{Answer}
 use Rattle.answers.specs.declared.Answer.the-variants.{Report, Refused}
@@ -33,7 +34,7 @@ same-number e = cc
 same-place : {k p number place : ℕ} → Refused k p ≡ Refused number place → p ≡ place
 same-place e = cc
 
-same-report : {x y : Reported} → Report x ≡ Report y → x ≡ y
+pub same-report : {x y : Reported} → Report x ≡ Report y → x ≡ y
 same-report e = cc
 
 verdict-back : (v : Verdict) → verdictRead (isSame v) ≡ v
@@ -92,12 +93,14 @@ module _ (l : Limits) (small : NoGreater l limits) (bytes : List ℕ) (left righ
         to-report = λ r x. c .answers ∙ ap returned (reports-exactly l bytes left right (length v) (length before) r .1 x);
       }
 
--- limits are nowhere above themselves
-own-limits : (l : Limits) → NoGreater l l
-own-limits l = record { members = omega arith; threads = omega arith; moves = omega arith }
-
 -- document 01's call keeps it, at document 01's limits
 pub document-promise : (bytes : List ℕ) (left right : ℕ) (v before w after : List ℕ) (answer : Answer)
     → Compared (compare bytes left right (length v) (length before)) v before w after answer
     → CallPromise limits bytes left right v before w after answer
 document-promise = call-promise limits (own-limits limits)
+
+-- the desk's call keeps it, at the desk's
+pub desk-promise : (bytes : List ℕ) (left right : ℕ) (v before w after : List ℕ) (answer : Answer)
+    → Compared (compareDesk bytes left right (length v) (length before)) v before w after answer
+    → CallPromise deskLimits bytes left right v before w after answer
+desk-promise = call-promise deskLimits desk-no-greater

@@ -1,2 +1,3 @@
 pub mod CallPromiseLaws
+pub mod TwoCallLaws
 pub mod PromiseAlone

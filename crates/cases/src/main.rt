@@ -1,7 +1,8 @@
 // Runs a list of cases from standard input. A case names its call: to read the sheet, to work out the set that grows from the two
-// chosen starts, or to compare them. The case's name is written with what the call gives; after a report a line says whether a
-// second checker, which works out document 01's levels over every configuration that the starts reach, finds the same
-// verdict, round and classes. All cases share one work slice, which is not cleared between them.
+// chosen starts, or to compare them. The case's name is written with what the call gives; after a comparison a line says what
+// the desk's call gives of the same input, the same or its refusal; and after a report a line says whether a second checker, which
+// works out document 01's levels over every configuration that the starts reach, finds the same verdict, round and classes. All
+// cases share one work slice, which is not cleared between them.
 use answers::Answer;
 use answers::Reported;
 use call_frame::Begun;
@@ -93,7 +94,59 @@ fn write_levels(sheet: &[u8], left: usize, right: usize, reported: Reported, ans
     io::write_all(STDOUT_FILENO, &out[..n]);
 }
 
-// Writes the report on two starts of a sheet, or the refusal, and what the levels say of a report.
+// Whether the same is said of two reports.
+fn same_reported(x: Reported, y: Reported) -> bool {
+    x.same == y.same
+        && x.round == y.round
+        && x.left == y.left
+        && x.right == y.right
+        && x.length == y.length
+}
+
+// Whether two calls answer the same.
+fn same_answer(r: Answer, s: Answer) -> bool {
+    match r {
+        Answer::Report(x) => match s {
+            Answer::Report(y) => same_reported(x, y),
+            Answer::Refused(_, _) => false,
+        },
+        Answer::Refused(number, place) => match s {
+            Answer::Report(_) => false,
+            Answer::Refused(other, at) => number == other && place == at,
+        },
+    }
+}
+
+// Writes the desk's refusal, where the other call gave something else; there is no other way in which the two may differ.
+fn write_difference(desk: Answer) {
+    let mut out = [0u8; 128];
+    match desk {
+        Answer::Report(_) => {
+            io::write_all(STDOUT_FILENO, b"DESK DIFFERS\n");
+        }
+        Answer::Refused(number, place) => {
+            let n = text::refused_line(&mut out, number, place);
+            io::write_all(STDOUT_FILENO, b"DESK ");
+            io::write_all(STDOUT_FILENO, &out[..n]);
+        }
+    }
+}
+
+// Writes what the desk's call gives beside document 01's, of which the answer and the answer slice are given: whether both are the
+// same whole, in an answer slice with the room that suffices for the desk, or the refusal.
+fn write_desk(sheet: &[u8], left: usize, right: usize, work: &mut [u32], r: Answer, answer: &[u8])
+    requires { ⌜ 1277 ≤ length (now answer) ⌝ }
+{
+    let mut bytes = [0u8; 1277];
+    let desk = compare_call::compare_desk(sheet, left, right, &mut bytes, work);
+    if same_answer(desk, r) && check::same(&bytes, &answer[..1277]) {
+        io::write_all(STDOUT_FILENO, b"DESK AGREES\n");
+    } else {
+        write_difference(desk);
+    }
+}
+
+// Writes the report on two starts of a sheet, or the refusal, what the desk's call gives, and what the levels say of a report.
 fn write_comparison(sheet: &[u8], left: usize, right: usize, work: &mut [u32]) {
     let mut answer = [0u8; 10237];
     let mut out = [0u8; 65536];
@@ -101,6 +154,7 @@ fn write_comparison(sheet: &[u8], left: usize, right: usize, work: &mut [u32]) {
     let k = outcome_text::outcome_text(r, &answer, &mut out);
     io::write_all(STDOUT_FILENO, b"\n");
     io::write_all(STDOUT_FILENO, &out[..k]);
+    write_desk(sheet, left, right, work, r, &answer);
     match r {
         Answer::Report(x) => write_levels(sheet, left, right, x, &answer),
         Answer::Refused(_, _) => {}

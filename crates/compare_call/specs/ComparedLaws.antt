@@ -121,3 +121,10 @@ module _ (l : Limits) (bytes : List ℕ) (left right : ℕ) (v before w : List �
           works = c ∙ ap (λ (t : List ℕ). replicate workLength 0 ++ t) (outside-drop (outside-again (on .whole .outside) (made .outside)))
               ∙ sym (room-cleared (length before) report v) ∙ ap (λ (y : Compares). workAfter y v) whole;
         }
+
+-- the call within caps is the call within the limits that they stand for
+pub compared-at : {k l : Limits} → k ≡ l → (bytes : List ℕ) (left right : ℕ) {v before w after : List ℕ} {a : Answer}
+    → Compared (compareWith k bytes left right (length v) (length before)) v before w after a
+    → Compared (compareWith l bytes left right (length v) (length before)) v before w after a
+compared-at e bytes left right {v} {before} {w} {after} {a} c =
+    subst (λ (l : Limits). Compared (compareWith l bytes left right (length v) (length before)) v before w after a) e c

@@ -1,9 +1,10 @@
-// The comparing call: sheet bytes, two start numbers, an answer slice and a work slice in; the report or one refusal out.
+// The comparing call: sheet bytes, two start numbers, an answer slice and a work slice in; the report or one refusal out. Document 01's
+// call and the desk's are the same within other limits.
 use answers::Answer;
 use call_frame::Begun;
 use collected_moves::Caps;
 ghost use lib.ListN.{length};
-ghost use Rattle.comparison.specs.Call.{compareWith, compare};
+ghost use Rattle.comparison.specs.Call.{compareWith, compare, compareDesk};
 ghost use Rattle.seed_members.specs.Seeds.{CapsFit};
 ghost use Rattle.found_set.specs.FoundSet.{limitsOf};
 ghost use Rattle.compare_call.specs.Compared.{Compared};
@@ -56,4 +57,19 @@ pub fn compare(
         work,
         call_seeds::document_caps(),
     )
+}
+
+// The desk's call (document 02, card 3).
+pub fn compare_desk(
+    sheet: &[u8],
+    left: usize,
+    right: usize,
+    answer: &mut [u8],
+    work: &mut [u32],
+) -> Answer
+    ensures { λ r. ⌜ Compared (compareDesk (now (sheet .entry)) left right
+        (length (now (work .entry))) (length (now (answer .entry))))
+        (now (work .entry)) (now (answer .entry)) (now (work .exit)) (now (answer .exit)) r ⌝ }
+{
+    compare_within(sheet, left, right, answer, work, call_seeds::desk_caps())
 }

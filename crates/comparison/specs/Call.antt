@@ -7,7 +7,7 @@ use lib.Dec.{ltb}
 use Rattle.sheets.specs.Refusals.{shortAnswer}
 use Rattle.sheets.specs.Sheet.{Configuration, Sheet, start}
 use Rattle.sheet_reading.specs.Reading.{Reading, readChoice}
-use Rattle.comparison.specs.CallLimits.{Limits, limits}
+use Rattle.comparison.specs.CallLimits.{Limits, limits, deskLimits}
 use Rattle.comparison.specs.Report.{Report, Compares, reportOn, reportBytes, reportLength}
 use Rattle.comparison.specs.Outcome.{Outcome, reported, refusal, writtenAfter}
 use Rattle.comparison.specs.Frame.{withSet, withWork, withSheet}
@@ -34,6 +34,10 @@ compareWith l bytes left right work answer = afterReading l left right work answ
 -- document 01's call
 abbrev pub compare : List ℕ → ℕ → ℕ → ℕ → ℕ → Compares
 compare = compareWith limits
+
+-- the desk's call (document 02, card 3): the same within the desk's limits
+abbrev pub compareDesk : List ℕ → ℕ → ℕ → ℕ → ℕ → Compares
+compareDesk = compareWith deskLimits
 
 -- the answer slice after the call
 abbrev pub answerAfter : Compares → List ℕ → List ℕ

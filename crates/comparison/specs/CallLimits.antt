@@ -1,4 +1,5 @@
--- The numbers of document 01, "The report" and "Refused by the state", each named once. A caller's limits are given.
+-- The numbers of document 01, "The report" and "Refused by the state", and of document 02, card 3, each named once. A caller's limits
+-- are given.
 use mathlib.Core.Path.{_≡_, refl}
 use Prim.Native.Nat.{ℕ, _+_, _-_, _*_, _≤_}
 use Rattle.sheets.specs.SheetLimits.{maxThreads}
@@ -18,6 +19,10 @@ pub record NoGreater (l m : Limits) : Type 0 where
 -- document 01's limits
 abbrev pub limits : Limits
 limits = record { members = 512; threads = maxThreads; moves = 4096 }
+
+-- document 02, card 3: the desk's limits; a member's threads are limited as before
+abbrev pub deskLimits : Limits
+deskLimits = record { members = 64; threads = maxThreads; moves = 512 }
 
 -- the numbers of 32 bits in the work slice
 abbrev pub workLength : ℕ
@@ -47,3 +52,7 @@ reportRoom l = wordLength + l .members * memberLength (l .threads) + wordLength 
 -- 10,237 bytes always suffice
 pub report-room-is : reportRoom limits ≡ 10237
 report-room-is = refl
+
+-- and 1,277 within the desk's limits
+pub desk-room-is : reportRoom deskLimits ≡ 1277
+desk-room-is = refl

@@ -11,17 +11,17 @@ use Rattle.stores.specs.Stores.{closure, passes, pass, conclusions}
 use Rattle.sheets.specs.Sheet.{Configuration, Sheet, openWithin}
 use Rattle.sheet_reading.specs.Reading.{recordsFrom, countAt, setAt, nameBytes, nameAt, namesFrom, factsAt, premiseAt, ruleAt, rulesAt, kindAt, firstAt, secondAt, nodeAt, nodesAt, threadAt, threadsFrom, startAt, startsAt, readSheet, readChoice}
 use Rattle.moves.specs.Moves.{labels, stepsWithin, moves}
-use Rattle.comparison.specs.CallLimits.{limits, workLength, noReply, reportRoom}
+use Rattle.comparison.specs.CallLimits.{limits, deskLimits, workLength, noReply, reportRoom}
 use Rattle.comparison.specs.Classes.{placeOf, numberedFrom}
 use Rattle.comparison.specs.Set.{exploredFrom, explored}
 use Rattle.comparison.specs.Rounds.{refined, classes, roundsFrom, rounds}
 use Rattle.comparison.specs.Trail.{TrailStep, trailFrom}
 use Rattle.comparison.specs.Report.{Verdict, SAME, DIFF, sideByte, replyNumber, reportOn, reportBytes, Compares}
 use Rattle.comparison.specs.Outcome.{reported, refusal, workAfter}
-use Rattle.comparison.specs.Call.{compareWith, compare, answerAfter}
+use Rattle.comparison.specs.Call.{compareWith, compare, compareDesk, answerAfter}
 use Rattle.comparison.specs.Print.{printed}
 use Rattle.printed_lines.specs.Decimal.{decimal, decimalWithin}
-use Rattle.comparison.specs.KnownSheets.{bytesOfK, bytesOfGrowing, bytesOfReplies, bytesOfTies, bytesOfWide, bytesOfPaper, bytesOfFacts, bytesOfThreads, bytesOfTwoMore, sheetK, sheetL}
+use Rattle.comparison.specs.KnownSheets.{bytesOfK, bytesOfGrowing, bytesOfReplies, bytesOfTies, bytesOfWide, bytesOfPaper, bytesOfFacts, bytesOfThreads, bytesOfTwoMore, bytesOfTells, sheetK, sheetL}
 
 -- what the definitions give, and what document 01 says, as numbers
 pub record Row : Type 0 where
@@ -262,6 +262,17 @@ table =
     ∷ row (brief (comparedWithin 2 2 2 bytesOfK 7 4)) (refusedAs 21 0)
     ∷ row (brief (comparedWithin 3 1 2 bytesOfK 7 4)) (refusedAs 21 0)
     ∷ row (brief (comparedWithin 3 2 1 bytesOfK 7 4)) (refusedAs 21 0)
+    -- ---- document 02, card 3: the desk's limits, and the room that suffices for its reports
+    ∷ row (deskLimits .members ∷ deskLimits .threads ∷ deskLimits .moves ∷ reportRoom deskLimits ∷ []) (64 ∷ 8 ∷ 512 ∷ 1277 ∷ [])
+    -- [8] and [1] at the desk: the whole answer, in the room that its limits name; 22 and 23 as before
+    ∷ row (whole (compareDesk bytesOfK 7 4 workLength (reportRoom deskLimits))) (1 ∷ 2 ∷ 2 ∷ 1 ∷ eightAnswer)
+    ∷ row (brief (compareDesk bytesOfK 7 4 workLength 35)) (refusedAs 22 36)
+    ∷ row (brief (compareDesk bytesOfK 7 4 16383 36)) (refusedAs 23 0)
+    -- 64 members pass at the desk and 65 do not; where the answer slice is too short as well, 21 comes first
+    ∷ row (brief (compareDesk (bytesOfTells 31) 0 1 workLength (reportRoom deskLimits))) (diffIn 0 [])
+    ∷ row (brief (compareDesk (bytesOfTells 64) 0 1 workLength 0)) (refusedAs 21 0)
+    -- and so with any limits
+    ∷ row (brief (compareWith (record { members = 2; threads = 2; moves = 2 }) bytesOfK 7 4 workLength 35)) (refusedAs 21 0)
     ∷ []
 
 pub all-right : T (all right table)

@@ -95,6 +95,15 @@ abbrev pub times : ℕ → List ℕ → List (List ℕ)
 times zero r = []
 times (suc n) r = r ∷ times n r
 
+-- n tells of ascending sets, and n eithers, each of the node before it and of the next one of the nodes below
+abbrev pub tellsFrom : ℕ → ℕ → List (List ℕ)
+tellsFrom zero set = []
+tellsFrom (suc n) set = node 1 set 0 ∷ tellsFrom n (suc set)
+
+abbrev pub eithersFrom : ℕ → ℕ → ℕ → List (List ℕ)
+eithersFrom zero before next = []
+eithersFrom (suc n) before next = node 4 before next ∷ eithersFrom n (suc before) (suc next)
+
 -- n facts, stop, and two starts without threads
 abbrev pub bytesOfFacts : ℕ → List ℕ
 bytesOfFacts n = section (times n (nameBytesOf 48)) ++ (section [] ++ (section (node 0 0 0 ∷ []) ++ section (start 0 [] ∷ start 0 [] ∷ [])))
@@ -110,6 +119,14 @@ abbrev pub bytesOfTwoMore : ℕ → List ℕ
 bytesOfTwoMore n =
     let threads = concatMap (λ r. r) (times n (0 ∷ [])) ++ (1 ∷ []) in
     section [] ++ (section [] ++ (section (node 1 0 0 ∷ node 2 0 2 ∷ node 3 0 0 ∷ []) ++ section (start 0 threads ∷ start 0 threads ∷ [])))
+
+-- Seven facts: tells of the sets 1 to 31 and of one more, an either over all of them, node 62, and two starts with it, at stores 0 and 64. A
+-- set that is among the others brings nothing new: then there are 64 members; 64, told at either start, gives one member more.
+abbrev pub bytesOfTells : ℕ → List ℕ
+bytesOfTells set =
+    section (times 7 (nameBytesOf 48))
+    ++ (section []
+    ++ (section ((tellsFrom 31 1 ++ (node 1 set 0 ∷ [])) ++ (node 4 0 1 ∷ eithersFrom 30 32 2)) ++ section (start 0 (62 ∷ []) ∷ start 64 (62 ∷ []) ∷ [])))
 
 -- ---- reading K and L
 pub k-reads : readSheet bytesOfK ≡ got sheetK (length bytesOfK)

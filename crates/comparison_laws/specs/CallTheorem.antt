@@ -8,7 +8,7 @@ use native.Mathlib.Omega.{arith}
 use lib.ListN.{length}
 use lib.Dec.{ltb}
 use borrow.Author.Tests.{ltb-true, ltb-false, lt-ltb, le-ltb}
-use Rattle.list_laws.specs.TestLaws.{true-false, Tested, tested, passes, fails}
+use Rattle.list_laws.specs.TestLaws.{true-false}
 use Rattle.list_laws.specs.ListPlaces.{getD-in}
 use Rattle.sheets.specs.Sheet.{Configuration, Sheet, start}
 use Rattle.sheets.specs.WellFormed.{WellFormed, Admissible}
@@ -21,7 +21,7 @@ use Rattle.comparison.specs.Set.{explored, fits}
 use Rattle.comparison.specs.Report.{Report, reportLength, Compares}
 use Rattle.comparison.specs.Outcome.{reported, refusal}
 use Rattle.comparison.specs.Call.{inRoom, compareStarts, compareSheet, afterReading, compareWith}
-use Rattle.comparison_laws.specs.SetLaws.{fits-exactly, fits-not-over, explored-closed, explored-seeds}
+use Rattle.comparison_laws.specs.SetLaws.{fits-exactly, fits-unpassed, fits-not-over, explored-closed, explored-seeds}
 use Rattle.comparison_laws.specs.ResultLaws.{result-is, rounds-of}
 use Rattle.comparison_laws.specs.ReportLaws.{report-room-within}
 use Rattle.comparison.specs.Promise.{PassesLimit, reportFor, startsOf, Refuses, by-sheet, short-work, large-set, short-answer, Reports, Faithful}
@@ -48,13 +48,6 @@ module _ (l : Limits) (bytes : List ℕ) (left right work answer : ℕ) where
   not-passed : (sheet : Sheet) → fits sheet l (explored sheet l (startsOf sheet left right)) ≡ true → PassesLimit sheet l (startsOf sheet left right) → ⊥
   not-passed sheet h x =
       true-false {A = ⊥} (fits sheet l (explored sheet l (startsOf sheet left right))) h (fits-exactly sheet l (startsOf sheet left right) .1 x)
-
-  fit-of : (sheet : Sheet) → (PassesLimit sheet l (startsOf sheet left right) → ⊥) → fits sheet l (explored sheet l (startsOf sheet left right)) ≡ true
-  fit-of sheet n = go (tested (fits sheet l (explored sheet l (startsOf sheet left right))))
-    where
-      go : Tested (fits sheet l (explored sheet l (startsOf sheet left right))) → fits sheet l (explored sheet l (startsOf sheet left right)) ≡ true
-      go (passes h) = h
-      go (fails h) = absurd (n (fits-exactly sheet l (startsOf sheet left right) .0 h))
 
   -- every call gives a report or a refusal under its condition
   pub call-gives : Gives l bytes left right work answer (compareWith l bytes left right work answer)
@@ -108,7 +101,7 @@ module _ (l : Limits) (bytes : List ℕ) (left right work answer : ℕ) where
             (report-faithful sheet (fine .well-formed) l (start sheet left) (start sheet right)
             (fine .starts-fit (start sheet left) (getD-in (sheet .starts) left (record { store = 0; threads = [] }) (c .left-there)))
             (fine .starts-fit (start sheet right) (getD-in (sheet .starts) right (record { store = 0; threads = [] }) (c .right-there)))
-            (fit-of sheet (g .no-limit))),
+            (fits-unpassed sheet l (startsOf sheet left right) (g .no-limit))),
       )
 
   -- ---- the conditions fix what the call gives
@@ -130,7 +123,8 @@ module _ (l : Limits) (bytes : List ℕ) (left right work answer : ℕ) where
       → (PassesLimit sheet l (startsOf sheet left right) → ⊥) → called ≡ inRoom answer (reportFor l sheet left right)
   fit-call sheet e w n =
       work-call sheet e w
-      ∙ ap (λ (b : Bool). elim b as (λ _. Compares) [ true ↦ inRoom answer (reportFor l sheet left right) | false ↦ refusal 21 0 ]) (fit-of sheet n)
+      ∙ ap (λ (b : Bool). elim b as (λ _. Compares) [ true ↦ inRoom answer (reportFor l sheet left right) | false ↦ refusal 21 0 ])
+      (fits-unpassed sheet l (startsOf sheet left right) n)
 
   refuses-call : {number place : ℕ} → Refuses l bytes left right work answer number place → called ≡ refusal number place
   unfolding compareWith
@@ -173,11 +167,11 @@ pub room-suffices : (l : Limits) (bytes : List ℕ) (left right work answer : �
 room-suffices l bytes left right work answer r g =
     let sheet : Sheet = g .sheet in
     subst (λ (x : Report). reportLength x ≤ reportRoom l) (sym (g .report))
-    (starts-room sheet (written-admissible bytes sheet (g .chosen .written) .well-formed) l left right (fit-of l bytes left right work answer sheet (g .no-limit)))
+    (starts-room sheet (written-admissible bytes sheet (g .chosen .written) .well-formed) l left right (fits-unpassed sheet l (startsOf sheet left right) (g .no-limit)))
 
 -- an answer slice with that room is never too short
 pub never-short : (l : Limits) (bytes : List ℕ) (left right work answer place : ℕ) → reportRoom l ≤ answer
     → (sheet : Sheet) → ChoiceIs bytes left right sheet → workLength ≤ work
     → (PassesLimit sheet l (startsOf sheet left right) → ⊥) → answer < reportLength (reportFor l sheet left right) → ⊥
 never-short l bytes left right work answer place room sheet e w n h =
-    omega (arith, starts-room sheet (written-admissible bytes sheet (e .written) .well-formed) l left right (fit-of l bytes left right work answer sheet n))
+    omega (arith, starts-room sheet (written-admissible bytes sheet (e .written) .well-formed) l left right (fits-unpassed sheet l (startsOf sheet left right) n))

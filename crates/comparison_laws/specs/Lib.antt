@@ -12,4 +12,5 @@ pub mod ReportLaws
 pub mod Theorem
 pub mod FaithfulAlone
 pub mod CallTheorem
+pub mod LimitLaws
 pub mod KnownRows

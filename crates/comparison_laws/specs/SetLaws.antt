@@ -260,3 +260,11 @@ module _ (sheet : Sheet) (l : Limits) (seeds : List Configuration) where
       go : PassesLimit sheet l seeds → Tested (fits sheet l (explored sheet l seeds)) → fits sheet l (explored sheet l seeds) ≡ false
       go x (passes h) = absurd (fits-no-limit h x)
       go x (fails h) = h
+
+  -- so where the set passes no limit it fits
+  pub fits-unpassed : (PassesLimit sheet l seeds → ⊥) → fits sheet l (explored sheet l seeds) ≡ true
+  fits-unpassed n = go (tested (fits sheet l (explored sheet l seeds)))
+    where
+      go : Tested (fits sheet l (explored sheet l seeds)) → fits sheet l (explored sheet l seeds) ≡ true
+      go (passes h) = h
+      go (fails h) = absurd (n (limit-passed h))

@@ -1,6 +1,6 @@
-// The library for callers in C and Rust: document 01's call over numbers and slices. include/hofadiju.h declares it.
+// The library for callers in C and Rust: document 01's call and the desk's over numbers and slices. include/hofadiju.h declares them.
 ghost use lib.ListN.{length};
-ghost use Rattle.comparison.specs.Call.{compare};
+ghost use Rattle.comparison.specs.Call.{compare, compareDesk};
 ghost use Rattle.answer_numbers.specs.AnswerNumbers.{Handed};
 
 // Document 01's call. It returns 0 for a report, else the refusal's number; the result has verdict, round, the places of both
@@ -18,6 +18,24 @@ pub extern "C" fn hofadiju_compare(
         (now (work .entry)) (now (answer .entry)) (now (work .exit)) (now (answer .exit)) (now (result .exit)) k ⌝ }
 {
     let r = compare_call::compare(sheet, left, right, answer, work);
+    *result = answer_numbers::answer_numbers(r);
+    answer_numbers::answer_number(r)
+}
+
+// The desk's call (document 02, card 3): the same within the desk's limits.
+#[no_mangle]
+pub extern "C" fn hofadiju_compare_desk(
+    sheet: &[u8],
+    left: usize,
+    right: usize,
+    answer: &mut [u8],
+    work: &mut [u32],
+    result: &mut [usize; 6],
+) -> u32
+    ensures { λ k. ⌜ Handed (compareDesk (now (sheet .entry)) left right (length (now (work .entry))) (length (now (answer .entry))))
+        (now (work .entry)) (now (answer .entry)) (now (work .exit)) (now (answer .exit)) (now (result .exit)) k ⌝ }
+{
+    let r = compare_call::compare_desk(sheet, left, right, answer, work);
     *result = answer_numbers::answer_numbers(r);
     answer_numbers::answer_number(r)
 }

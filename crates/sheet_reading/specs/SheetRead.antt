@@ -371,19 +371,23 @@ choice-reads s left right =
         rw (sheet-reads s .is-got sheet (length s) (h, refl), lt-leb (length (sheet .starts)) left l, le-leb (length (sheet .starts)) right e)
 
 -- ---- exactly one
+pub same-sheet : {x y : Sheet} {a b : ℕ} → got x a ≡ got y b → x ≡ y
+same-sheet e = cc
+
+-- one byte string is one sheet
+pub one-sheet : (s : List ℕ) {x y : Sheet} → SheetIs s x → SheetIs s y → x ≡ y
+one-sheet s {x} {y} h k = same-sheet (sym (sheet-reads s .is-got x (length s) (h, refl)) ∙ sheet-reads s .is-got y (length s) (k, refl))
+
 pub exactly-one : (s : List ℕ) → ExactlyOne s
 exactly-one s = go (readSheet s) refl
   where
-    same-sheet : {x y : Sheet} {a b : ℕ} → got x a ≡ got y b → x ≡ y
-    same-sheet e = cc
-
     same-refusal : {n m p q : ℕ} → _≡_ {A = Reading Sheet} (refused n p) (refused m q) → (n ≡ m) × (p ≡ q)
     same-refusal e = (cc, cc)
 
     go : (r : Reading Sheet) → readSheet s ≡ r → ExactlyOne s
     go (got sheet end) e =
-        a-sheet sheet (sheet-reads s .sound .got-is sheet end e .0)
-        (λ x h. same-sheet (sym (sheet-reads s .is-got x (length s) (h, refl)) ∙ e))
+        let is : SheetIs s sheet = sheet-reads s .sound .got-is sheet end e .0 in
+        a-sheet sheet is (λ x h. one-sheet s h is)
         (λ number place h. got-not-refused (sym e ∙ sheet-reads s .is-refused number place h))
     go (refused number place) e =
         a-refusal number place (sheet-reads s .sound .refused-is number place e)

@@ -1,6 +1,6 @@
 //! Document 01 written again in Rust, twice, from its text and the readings in docs/DECISIONS.md and
 //! without the library's code: [`plain`], to be read beside the document, and [`fast`], written for
-//! speed. The library is held to both, and they to each other.
+//! speed. The library is held to both, and they to each other. Both take the limits as a given value.
 
 pub mod fast;
 pub mod plain;
@@ -8,7 +8,28 @@ pub mod plain;
 /// The least length of a work slice.
 pub const WORK_NUMBERS: usize = 16_384;
 
-/// What document 01 says about a sheet and a choice of two starts, whatever slices are lent.
+/// The most members and moves that a comparison may have.
+#[derive(Clone, Copy, Debug, PartialEq, Eq)]
+pub struct Limits {
+    pub members: usize,
+    pub moves: usize,
+}
+
+impl Limits {
+    /// Document 01's limits.
+    pub const DOCUMENT: Limits = Limits { members: 512, moves: 4_096 };
+    /// The quotation desk's limits: document 02, card 3.
+    pub const DESK: Limits = Limits { members: 64, moves: 512 };
+}
+
+impl Default for Limits {
+    fn default() -> Limits {
+        Limits::DOCUMENT
+    }
+}
+
+/// What document 01 says, within some limits, about a sheet and a choice of two starts, whatever
+/// slices are lent.
 #[derive(Clone, Debug, PartialEq, Eq)]
 pub enum Judgement {
     /// Refusals 1 to 15.

@@ -1,19 +1,10 @@
 //! Document 01, plainly: in its order and its words, with no thought of speed.
 
-use crate::Judgement;
+use crate::{Judgement, Limits};
 use std::collections::{BTreeMap, BTreeSet, HashMap};
 
 /// The most threads of a configuration.
 const THREADS: usize = 8;
-
-/// The most members and moves that a comparison may have.
-#[derive(Clone, Copy)]
-struct Limits {
-    members: usize,
-    moves: usize,
-}
-
-const LIMITS: Limits = Limits { members: 512, moves: 4_096 };
 
 // Facts and stores
 
@@ -552,8 +543,8 @@ fn answer_bytes(members: &Members, classes: &Classes, steps: &[[u8; 7]]) -> Vec<
     bytes
 }
 
-fn report(sheet: &Sheet, left: &Configuration, right: &Configuration) -> Result<Judgement, TooLarge> {
-    let mut moving = Moving::new(sheet, LIMITS);
+fn report(limits: Limits, sheet: &Sheet, left: &Configuration, right: &Configuration) -> Result<Judgement, TooLarge> {
+    let mut moving = Moving::new(sheet, limits);
     let members = explore(&mut moving, left, right)?;
     let comparison = Comparison::new(&moving, &members);
     let rounds = comparison.rounds();
@@ -568,8 +559,8 @@ fn report(sheet: &Sheet, left: &Configuration, right: &Configuration) -> Result<
     Ok(Judgement::Report { verdict, round, left, right, bytes })
 }
 
-/// What document 01 says about these bytes and these two starts.
-pub fn judge(bytes: &[u8], left: usize, right: usize) -> Judgement {
+/// What document 01 says, within these limits, about these bytes and these two starts.
+pub fn judge(limits: Limits, bytes: &[u8], left: usize, right: usize) -> Judgement {
     let refused = |number, place| Judgement::Refused { number, place };
     let sheet = match read(bytes) {
         Ok(sheet) => sheet,
@@ -577,14 +568,15 @@ pub fn judge(bytes: &[u8], left: usize, right: usize) -> Judgement {
     };
     let Some(left) = sheet.starts.get(left) else { return refused(14, 0) };
     let Some(right) = sheet.starts.get(right) else { return refused(14, 1) };
-    report(&sheet, left, right).unwrap_or(Judgement::TooLarge)
+    report(limits, &sheet, left, right).unwrap_or(Judgement::TooLarge)
 }
 
 /// How many members and moves the comparison's set has, where the sheet is read, the starts are on it
-/// and there are not far more than the limits allow.
+/// and there are not far more than document 01's limits allow.
 pub fn size(bytes: &[u8], left: usize, right: usize) -> Option<(usize, usize)> {
     let sheet = read(bytes).ok()?;
-    let limits = Limits { members: 2 * LIMITS.members, moves: 2 * LIMITS.moves };
+    let Limits { members, moves } = Limits::DOCUMENT;
+    let limits = Limits { members: 2 * members, moves: 2 * moves };
     let mut moving = Moving::new(&sheet, limits);
     let members = explore(&mut moving, sheet.starts.get(left)?, sheet.starts.get(right)?).ok()?;
     Some((members.len(), members.values().map(|moves| moves.len()).sum()))

@@ -1,6 +1,6 @@
 //! The two implementations agree with each other, and with the sheets that document 01 knows.
 
-use reference::{fast, plain, Judgement, WORK_NUMBERS};
+use reference::{fast, plain, Judgement, Limits, WORK_NUMBERS};
 use sheets::{alike_pair, draw, Draft, Rng, ASK, BOTH, EITHER, SHAPES, STOP, TELL};
 
 /// Sheet K of document 01.
@@ -24,7 +24,9 @@ fn sheet_k(starts: &[(u16, &[u8])]) -> Draft {
 type Short = (usize, usize, Vec<(u8, u16, u16, u16)>);
 
 fn short(draft: &Draft) -> Short {
-    let Judgement::Report { verdict, round, bytes, .. } = plain::judge(&draft.bytes(), 0, 1) else {
+    let judgement = plain::judge(Limits::DOCUMENT, &draft.bytes(), 0, 1);
+    assert_eq!(plain::judge(Limits::DESK, &draft.bytes(), 0, 1), judgement);
+    let Judgement::Report { verdict, round, bytes, .. } = judgement else {
         panic!("refused");
     };
     let number = |at: usize| u16::from_le_bytes([bytes[at], bytes[at + 1]]);
@@ -57,7 +59,9 @@ fn known_sheets() {
         nodes: vec![(TELL, 0, 0), (ASK, 0, 2), (BOTH, 0, 1)],
         starts: vec![(0, vec![1]), (0, vec![1])],
     };
-    assert_eq!(plain::judge(&growing.bytes(), 0, 1), Judgement::TooLarge);
+    for limits in [Limits::DOCUMENT, Limits::DESK] {
+        assert_eq!(plain::judge(limits, &growing.bytes(), 0, 1), Judgement::TooLarge);
+    }
 }
 
 struct Held {
@@ -72,14 +76,17 @@ impl Held {
     }
 
     /// Holds one implementation to the other; gives the number that was returned.
-    fn hold(&mut self, bytes: &[u8], left: usize, right: usize) -> u32 {
-        let judgement = plain::judge(bytes, left, right);
+    fn hold(&mut self, limits: Limits, bytes: &[u8], left: usize, right: usize) -> u32 {
+        let judgement = plain::judge(limits, bytes, left, right);
         let mut expected = vec![0xA5; 10_237];
         let returned = judgement.call(&mut expected, &mut self.work);
         self.answer.clear();
         self.answer.resize(10_237, 0xA5);
-        let other = self.comparer.compare(bytes, left, right, &mut self.answer, &mut self.work);
-        assert!(returned == other && self.answer == expected, "{left} {right} {bytes:?}\n{returned:?}\n{other:?}");
+        let other = self.comparer.compare(limits, bytes, left, right, &mut self.answer, &mut self.work);
+        assert!(
+            returned == other && self.answer == expected,
+            "{limits:?} {left} {right} {bytes:?}\n{returned:?}\n{other:?}"
+        );
         returned.0
     }
 }
@@ -89,11 +96,15 @@ fn random_sheets() {
     let mut held = Held::new();
     for shape in &SHAPES {
         let mut rng = Rng::new(1);
-        let mut seen = [0; 24];
+        let (mut seen, mut desk) = ([0; 24], [0; 24]);
         for i in 0..1_500 {
             let draft = if i % 3 == 0 { alike_pair(shape, &mut rng) } else { draw(shape, &mut rng) };
-            seen[held.hold(&draft.bytes(), 0, 1) as usize] += 1;
+            seen[held.hold(Limits::DOCUMENT, &draft.bytes(), 0, 1) as usize] += 1;
+            desk[held.hold(Limits::DESK, &draft.bytes(), 0, 1) as usize] += 1;
         }
-        println!("{}: {} reports, {} too large, {} other", shape.name, seen[0], seen[21], 1_500 - seen[0] - seen[21]);
+        for (at, seen) in [("", seen), (", desk", desk)] {
+            let other = 1_500 - seen[0] - seen[21];
+            println!("{}{at}: {} reports, {} too large, {other} other", shape.name, seen[0], seen[21]);
+        }
     }
 }

@@ -64,6 +64,11 @@ impl Draft {
         self.nodes.len() as u16 - 1
     }
 
+    /// So many asks of a set, one after the other, that end at a node; gives the first.
+    pub fn chain(&mut self, length: usize, set: u16, end: u16) -> u8 {
+        (0..length).fold(end, |next, _| self.push(ASK, set, next)) as u8
+    }
+
     /// How many threads each node opens to. Both and either must name lower nodes.
     pub fn opened(&self) -> Vec<usize> {
         let mut opened: Vec<usize> = vec![];

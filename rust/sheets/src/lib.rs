@@ -2,11 +2,13 @@
 //! that are alike or nearly so, and damaged bytes.
 
 mod alike;
+mod damage;
 mod draft;
 mod random;
 mod shapes;
 
 pub use alike::alike_pair;
+pub use damage::damage;
 pub use draft::Draft;
 pub use random::Rng;
 pub use shapes::{draw, Shape, SHAPES};

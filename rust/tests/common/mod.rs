@@ -1,10 +1,10 @@
-//! Holds the library's call to the reference, whole: what it returns, every byte of the answer slice,
-//! every number of the work slice, and guards around all that is lent.
+//! Holds the library's two calls to the reference, whole: what they return, every byte of the answer
+//! slice, every number of the work slice, and guards around all that is lent.
 
 #![allow(dead_code)]
 
 use hofadiju as _;
-use reference::{fast, plain, Judgement, Returned};
+use reference::{fast, plain, Judgement, Limits, Returned};
 use sheets::Rng;
 
 extern "C" {
@@ -19,17 +19,42 @@ extern "C" {
         work_len: usize,
         result: *mut usize,
     ) -> u32;
+
+    fn hofadiju_compare_desk(
+        sheet: *const u8,
+        sheet_len: usize,
+        left: usize,
+        right: usize,
+        answer: *mut u8,
+        answer_len: usize,
+        work: *mut u32,
+        work_len: usize,
+        result: *mut usize,
+    ) -> u32;
 }
 
-/// The lengths that document 01 names.
+/// The lengths that document 01 names, and the desk's answer.
 pub const ANSWER: usize = 10_237;
+pub const DESK_ANSWER: usize = 1_277;
 pub const WORK: usize = 16_384;
+
+/// One of the library's calls, its limits, and the length of an answer slice that always suffices.
+#[derive(Clone, Copy)]
+struct Call {
+    function: unsafe extern "C" fn(*const u8, usize, usize, usize, *mut u8, usize, *mut u32, usize, *mut usize) -> u32,
+    limits: Limits,
+    answer: usize,
+}
+
+const DOCUMENT: Call = Call { function: hofadiju_compare, limits: Limits::DOCUMENT, answer: ANSWER };
+const DESK: Call = Call { function: hofadiju_compare_desk, limits: Limits::DESK, answer: DESK_ANSWER };
 
 /// Bytes or numbers before and after each lent slice.
 const GUARD: usize = 64;
 
 /// The slices of one call inside their guards, and what must stand in them afterwards.
 pub struct Harness {
+    call: Call,
     comparer: fast::Comparer,
     sheet: Vec<u8>,
     answer: Vec<u8>,
@@ -42,13 +67,26 @@ pub struct Harness {
     pub seen: [usize; 24],
     /// How many calls of the library were held.
     pub calls: usize,
+    /// The longest report in bytes.
+    pub longest: usize,
 }
 
 impl Harness {
+    /// For document 01's call.
     pub fn new(seed: u64) -> Harness {
+        Harness::of(DOCUMENT, seed)
+    }
+
+    /// For the desk's call.
+    pub fn desk(seed: u64) -> Harness {
+        Harness::of(DESK, seed)
+    }
+
+    fn of(call: Call, seed: u64) -> Harness {
         let mut rng = Rng::new(seed);
         let dirt = (0..WORK + 4_096).map(|_| rng.number() as u32).collect();
         Harness {
+            call,
             comparer: fast::Comparer::new(),
             sheet: vec![],
             answer: vec![],
@@ -59,20 +97,25 @@ impl Harness {
             rng,
             seen: [0; 24],
             calls: 0,
+            longest: 0,
         }
     }
 
-    /// What the two implementations say, where they agree.
+    /// What the two implementations say, where they agree. No report is longer than the answer slice
+    /// that always suffices.
     pub fn judge(&mut self, sheet: &[u8], left: usize, right: usize) -> Judgement {
-        let judgement = plain::judge(sheet, left, right);
+        let Call { limits, answer, .. } = self.call;
+        let judgement = plain::judge(limits, sheet, left, right);
         self.answer.clear();
-        self.answer.resize(ANSWER, 0x5A);
+        self.answer.resize(answer, 0x5A);
         self.work.clear();
         self.work.resize(WORK, 1);
-        let returned = self.comparer.compare(sheet, left, right, &mut self.answer, &mut self.work);
-        assert_eq!(returned, judgement.returned(ANSWER, WORK), "the implementations: {left} {right} {sheet:?}");
+        let returned = self.comparer.compare(limits, sheet, left, right, &mut self.answer, &mut self.work);
+        assert_eq!(returned, judgement.returned(answer, WORK), "the implementations: {left} {right} {sheet:?}");
         if let Judgement::Report { bytes, .. } = &judgement {
+            assert!(bytes.len() <= answer, "a report of {} bytes: {left} {right} {sheet:?}", bytes.len());
             assert_eq!(&self.answer[..bytes.len()], bytes, "the implementations: {left} {right} {sheet:?}");
+            self.longest = self.longest.max(bytes.len());
         }
         judgement
     }
@@ -93,7 +136,7 @@ impl Harness {
         // SAFETY: the pointers and lengths are those of parts of three vectors and an array, which do
         // not overlap.
         let number = unsafe {
-            hofadiju_compare(
+            (self.call.function)(
                 self.sheet[GUARD..].as_ptr(),
                 sheet.len(),
                 left,
@@ -132,10 +175,15 @@ impl Harness {
         self.expected_work.clone_from(&self.work);
     }
 
+    /// What the last call left in the answer slice and in the work slice, guards and all.
+    pub fn left_behind(&self) -> (&[u8], &[u32]) {
+        (&self.answer, &self.work)
+    }
+
     /// The library on a sheet and two starts, with slices as long as they ever need to be.
     pub fn compare(&mut self, sheet: &[u8], left: usize, right: usize) -> Returned {
         let judgement = self.judge(sheet, left, right);
-        let returned = self.hold(&judgement, sheet, (left, right), ANSWER, WORK);
+        let returned = self.hold(&judgement, sheet, (left, right), self.call.answer, WORK);
         self.seen[returned.0 as usize] += 1;
         returned
     }
@@ -148,14 +196,14 @@ impl Harness {
             Judgement::Report { bytes, .. } => bytes.len(),
             _ => 100,
         };
-        for answer_len in [0, needed - 1, needed, needed + 1, ANSWER] {
+        for answer_len in [0, needed - 1, needed, needed + 1, self.call.answer] {
             self.hold(&judgement, sheet, starts, answer_len, WORK);
         }
         for work_len in [0, WORK - 1, WORK + 1, WORK + 777] {
             self.hold(&judgement, sheet, starts, needed, work_len);
             self.hold(&judgement, sheet, starts, needed - 1, work_len);
         }
-        let returned = judgement.returned(ANSWER, WORK);
+        let returned = judgement.returned(self.call.answer, WORK);
         self.seen[returned.0 as usize] += 1;
         returned
     }

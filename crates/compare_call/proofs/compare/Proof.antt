@@ -1,10 +1,6 @@
 -- The call within document 01's limits.
 use borrow.Author.Needs.{needs}
-use mathlib.Core.Path.{subst}
-use lib.ListN.{length}
-use Rattle.comparison.specs.CallLimits.{Limits}
-use Rattle.comparison.specs.Call.{compareWith}
-use Rattle.compare_call.specs.Compared.{Compared}
+use Rattle.compare_call.specs.ComparedLaws.{compared-at}
 use Rattle.compare_call.proofs.compare.Statement.{statement}
 use Rattle.compare_call.proofs.compare.Tie as tie
 
@@ -32,13 +28,8 @@ returns : tie.Need-returns
 returns c =
     let at-compare-within = c .before .before .before .before in
     let at-document-caps = document-caps-of-compare-within at-compare-within in
-    let start = start-of-document-caps at-document-caps in
-    let caps = at-document-caps .document-caps in
-    let within = at-compare-within .compare-within in
-    let args = start .args in
-    subst (λ (l : Limits). Compared (compareWith l (args .sheet .now) (args .left) (args .right) (length (args .work .now)) (length (args .answer .now)))
-    (args .work .now) (args .answer .now) (within .last .1 .1 .1 .1 .0) (within .last .1 .1 .1 .0) (within .result))
-    (caps .ensures .0) (within .ensures)
+    let args = start-of-document-caps at-document-caps .args in
+    compared-at (at-document-caps .document-caps .ensures .0) (args .sheet .now) (args .left) (args .right) (at-compare-within .compare-within .ensures)
 
 pub compare-spec : {M : Type 1} → statement M
 compare-spec =

@@ -1,0 +1,44 @@
+-- Two calls on one sheet and one choice, side by side: said of what was returned and of what stands in the slices afterwards. Document
+-- 02, card 3, is about two calls that differ in their limits alone.
+use mathlib.Core.Path.{_≡_}
+use mathlib.Core.Logic.{_⊎_}
+use mathlib.Core.List.{List}
+use Prim.Native.Nat.{ℕ}
+use lib.ListN.{take}
+use Rattle.sheets.specs.Refusals.{largeSet, shortAnswer}
+use Rattle.sheets.specs.Sheet.{Sheet}
+use Rattle.sheets.specs.SheetBytes.{ChoiceIs}
+use Rattle.comparison.specs.CallLimits.{Limits}
+use Rattle.comparison.specs.Promise.{PassesLimit, startsOf}
+use Rattle.answers.specs.declared.Reported.{Reported}
+use Rattle.answers.specs.declared.Answer.{Answer}
+use Rattle.answers.specs.declared.Answer.the-variants.{Report, Refused}
+
+-- the two did the same: what was returned, and both slices
+pub record OneCall (w after : List ℕ) (answer : Answer) (w2 after2 : List ℕ) (answer2 : Answer) : Type 0 where
+  pub answers : answer ≡ answer2
+  pub bytes : after ≡ after2
+  pub works : w ≡ w2
+
+-- Both reported, x and y: the same was returned, and the same bytes were written, in front of answer slices that may differ in length
+-- and in what stood there before.
+pub record OneReport (x : Reported) (after : List ℕ) (y : Reported) (after2 : List ℕ) : Type 0 where
+  pub returns : x ≡ y
+  pub written : take (x .length) after ≡ take (y .length) after2
+
+-- the set of the two starts passes one of these limits
+pub record LargeBy (l : Limits) (bytes : List ℕ) (left right : ℕ) : Type 0 where
+  pub sheet : Sheet
+  pub chosen : ChoiceIs bytes left right sheet
+  pub passes : PassesLimit sheet l (startsOf sheet left right)
+
+-- Card 3, of one input and the same slices: the first call within limits l, which are nowhere above those of the second.
+pub record LowerCall (l : Limits) (bytes : List ℕ) (left right : ℕ) (w after : List ℕ) (answer : Answer) (w2 after2 : List ℕ) (answer2 : Answer) : Type 0 where
+  -- the two do the same, or the lower gives 21 by its own numbers
+  pub apart : OneCall w after answer w2 after2 answer2 ⊎ ((answer ≡ Refused largeSet 0) × LargeBy l bytes left right)
+  -- where the lower reports, so does the higher, and the two do the same
+  pub lower-reports : (x : Reported) → answer ≡ Report x → OneCall w after answer w2 after2 answer2
+  -- where the lower refuses by another number than 21, so does the higher, by that number and at that place
+  pub lower-refuses : (number place : ℕ) → answer ≡ Refused number place → (number ≡ largeSet → ⊥) → OneCall w after answer w2 after2 answer2
+  -- where the higher refuses by another number than 22, so does the lower, by that number and at that place
+  pub higher-refuses : (number place : ℕ) → answer2 ≡ Refused number place → (number ≡ shortAnswer → ⊥) → OneCall w after answer w2 after2 answer2

@@ -1,0 +1,138 @@
+-- Two calls that keep the promise, each within limits of its own.
+use mathlib.Core.Path.{_≡_, refl, sym, ap, _∙_}
+use mathlib.Core.Logic.{_⊎_, inl, inr}
+use mathlib.Core.List.{List, _++_}
+use Prim.Native.Nat.{ℕ, _≤_}
+use native.Mathlib.Omega.{arith}
+use lib.ListN.{length, take, drop}
+use lib.Seq.{take-append-seam}
+use Rattle.sheets.specs.Refusals.{largeSet, shortAnswer}
+use Rattle.sheet_reading.specs.SheetRead.{choice-reads}
+use Rattle.sheet_laws.specs.RefusalNumbers.{number-low}
+use Rattle.comparison.specs.CallLimits.{Limits, NoGreater, limits, deskLimits, reportRoom}
+use Rattle.comparison.specs.Report as spec
+use Rattle.comparison.specs.Report.{reportBytes}
+use Rattle.comparison.specs.Call.{compare, compareDesk}
+use Rattle.comparison.specs.Promise.{Refuses, by-sheet, short-work, large-set, short-answer, Reports}
+use Rattle.comparison_laws.specs.CallTheorem.{room-suffices, never-short}
+use Rattle.comparison_laws.specs.LimitLaws.{desk-no-greater, reports-same, reports-higher, refuses-higher, refuses-lower, Beside, report-of-both, refusal-of-both, lower-large, beside}
+use Rattle.answers.specs.declared.Reported.{Reported}
+use Rattle.answers.specs.declared.Answer.{Answer}
+use Rattle.answers.specs.declared.Answer.the-variants.{Report, Refused}
+use Rattle.answers.specs.Returned.{returnedOf}
+use Rattle.compare_call.specs.Compared.{Compared}
+use Rattle.call_promise.specs.CallPromise.{reportRead, ReportPromise, CallPromise}
+use Rattle.call_promise.specs.TwoCalls.{OneCall, OneReport, LargeBy, LowerCall}
+use Rattle.call_theorem.specs.CallPromiseLaws.{same-report, document-promise, desk-promise}
+
+-- ---- a report, whatever the slices
+module _ (l : Limits) (bytes : List ℕ) (left right : ℕ) where
+  -- what is returned of a report is fixed by what is read back
+  returned-read : {v before w after : List ℕ} {x : Reported} → CallPromise l bytes left right v before w after (Report x)
+      → x ≡ returnedOf (reportRead x after)
+  returned-read {after = after} {x = x} a = same-report (a .to-report (reportRead x after) (a .made x refl .reports))
+
+  -- the bytes in front of the answer slice are the report's
+  front-read : {v before w after : List ℕ} {x : Reported} → ReportPromise l bytes left right v before w after x
+      → take (x .length) after ≡ reportBytes (reportRead x after)
+  front-read {before = before} {after = after} {x = x} m =
+      let bs : List ℕ = reportBytes (reportRead x after) in
+      ap (λ (n : ℕ). take n after) (m .long) ∙ ap (take (length bs)) (m .written) ∙ take-append-seam bs (drop (x .length) before)
+
+  -- no report is longer than the room that the limits name
+  pub report-within : {v before w after : List ℕ} {x : Reported} → CallPromise l bytes left right v before w after (Report x)
+      → x .length ≤ reportRoom l
+  report-within {v} {before} {after = after} {x = x} a =
+      let m = a .made x refl in
+      omega (arith, m .long, room-suffices l bytes left right (length v) (length before) (reportRead x after) (m .reports))
+
+  -- and with that room 22 is not given
+  pub room-enough : {v before w after : List ℕ} {answer : Answer} {place : ℕ} → CallPromise l bytes left right v before w after answer
+      → reportRoom l ≤ length before → answer ≡ Refused shortAnswer place → ⊥
+  room-enough {v} {before} {place = place} a room e = go refl (a .refused shortAnswer place e .refuses)
+    where
+      go : {number at : ℕ} → number ≡ shortAnswer → Refuses l bytes left right (length v) (length before) number at → ⊥
+      go {number} {at} n (by-sheet x) =
+          omega (arith, n, number-low bytes left right number at (choice-reads bytes left right .is-refused number at x) .within)
+      go n (short-work sheet x k) = omega (arith, n)
+      go n (large-set sheet x k p) = omega (arith, n)
+      go {at = at} n (short-answer sheet x k p j) = never-short l bytes left right (length v) (length before) at room sheet x k p j
+
+module _ (l h : Limits) (bytes : List ℕ) (left right : ℕ) where
+  -- Where both report, what they return and write is the same.
+  pub one-report : {v before w after : List ℕ} {x : Reported} {v2 before2 w2 after2 : List ℕ} {y : Reported}
+      → CallPromise l bytes left right v before w after (Report x) → CallPromise h bytes left right v2 before2 w2 after2 (Report y)
+      → OneReport x after y after2
+  one-report {after = after} {x = x} {after2 = after2} {y = y} a b =
+      let m = a .made x refl in
+      let n = b .made y refl in
+      let same : reportRead x after ≡ reportRead y after2 = reports-same l h bytes left right (m .reports) (n .reports) in
+      record {
+        returns = returned-read l bytes left right a ∙ ap returnedOf same ∙ sym (returned-read h bytes left right b);
+        written = front-read l bytes left right m ∙ ap reportBytes same ∙ sym (front-read h bytes left right n);
+      }
+
+  -- ---- the same slices
+  module _ (v before : List ℕ) {w after : List ℕ} {answer : Answer} {w2 after2 : List ℕ} {answer2 : Answer}
+      (a : CallPromise l bytes left right v before w after answer) (b : CallPromise h bytes left right v before w2 after2 answer2) where
+    pub both-report : {r : spec.Report} → Reports l bytes left right (length v) (length before) r
+        → Reports h bytes left right (length v) (length before) r → OneCall w after answer w2 after2 answer2
+    both-report {r} x y =
+        let p = a .to-report r x in
+        let q = b .to-report r y in
+        let m = a .made (returnedOf r) p in
+        let n = b .made (returnedOf r) q in
+        let same : reportRead (returnedOf r) after ≡ reportRead (returnedOf r) after2 = reports-same l h bytes left right (m .reports) (n .reports) in
+        record {
+          answers = p ∙ sym q;
+          bytes = m .written ∙ ap (λ (y : spec.Report). reportBytes y ++ drop (returnedOf r .length) before) same ∙ sym (n .written);
+          works = m .work ∙ sym (n .work);
+        }
+
+    pub both-refuse : {number place : ℕ} → Refuses l bytes left right (length v) (length before) number place
+        → Refuses h bytes left right (length v) (length before) number place → OneCall w after answer w2 after2 answer2
+    both-refuse {number} {place} x y =
+        let p = a .to-refuse number place x in
+        let q = b .to-refuse number place y in
+        let m = a .refused number place p in
+        let n = b .refused number place q in
+        record { answers = p ∙ sym q; bytes = m .untouched ∙ sym (n .untouched); works = m .work ∙ sym (n .work) }
+
+    -- Card 3, for any two limits of which the first are nowhere above the second.
+    pub lower-call : NoGreater l h → LowerCall l bytes left right w after answer w2 after2 answer2
+    lower-call le =
+        record {
+          apart = given (beside l h bytes left right le);
+          lower-reports = λ x e.
+              let g = a .made x e .reports in both-report g (reports-higher l h bytes left right le g (g .work-room) (g .answer-room));
+          lower-refuses = λ number place e n.
+              both-refuse (a .refused number place e .refuses) (refuses-higher l h bytes left right le (a .refused number place e .refuses) n);
+          higher-refuses = λ number place e n.
+              both-refuse (refuses-lower l h bytes left right le (b .refused number place e .refuses) n) (b .refused number place e .refuses);
+        }
+      where
+        given : Beside l h bytes left right (length v) (length before)
+            → OneCall w after answer w2 after2 answer2 ⊎ ((answer ≡ Refused largeSet 0) × LargeBy l bytes left right)
+        given (report-of-both x y) = inl (both-report x y)
+        given (refusal-of-both x y) = inl (both-refuse x y)
+        given (lower-large sheet e k p) =
+            inr (a .to-refuse largeSet 0 (large-set sheet e k p), record { sheet = sheet; chosen = e; passes = p })
+
+-- ---- the desk's call beside document 01's, from the contracts of both
+module _ (bytes : List ℕ) (left right : ℕ) where
+  pub desk-lower : (v before w after : List ℕ) (answer : Answer) (w2 after2 : List ℕ) (answer2 : Answer)
+      → Compared (compareDesk bytes left right (length v) (length before)) v before w after answer
+      → Compared (compare bytes left right (length v) (length before)) v before w2 after2 answer2
+      → LowerCall deskLimits bytes left right w after answer w2 after2 answer2
+  desk-lower v before w after answer w2 after2 answer2 a b =
+      lower-call deskLimits limits bytes left right v before
+      (desk-promise bytes left right v before w after answer a) (document-promise bytes left right v before w2 after2 answer2 b) desk-no-greater
+
+  -- both report, each in slices of its own
+  pub desk-report : (v before w after : List ℕ) (x : Reported) (v2 before2 w2 after2 : List ℕ) (y : Reported)
+      → Compared (compareDesk bytes left right (length v) (length before)) v before w after (Report x)
+      → Compared (compare bytes left right (length v2) (length before2)) v2 before2 w2 after2 (Report y)
+      → OneReport x after y after2
+  desk-report v before w after x v2 before2 w2 after2 y a b =
+      one-report deskLimits limits bytes left right
+      (desk-promise bytes left right v before w after (Report x) a) (document-promise bytes left right v2 before2 w2 after2 (Report y) b)
