@@ -12,7 +12,7 @@ use Rattle.comparison.specs.CallLimits.{Limits}
 use Rattle.comparison.specs.Promise.{PassesLimit, startsOf}
 use Rattle.answers.specs.declared.Reported.{Reported}
 use Rattle.answers.specs.declared.Answer.{Answer}
-use Rattle.answers.specs.declared.Answer.the-variants.{Report, Refused}
+use Rattle.answers.specs.declared.Answer.the-variants.{Refused}
 
 -- the two did the same: what was returned, and both slices
 pub record OneCall (w after : List ℕ) (answer : Answer) (w2 after2 : List ℕ) (answer2 : Answer) : Type 0 where
@@ -36,9 +36,5 @@ pub record LargeBy (l : Limits) (bytes : List ℕ) (left right : ℕ) : Type 0 w
 pub record LowerCall (l : Limits) (bytes : List ℕ) (left right : ℕ) (w after : List ℕ) (answer : Answer) (w2 after2 : List ℕ) (answer2 : Answer) : Type 0 where
   -- the two do the same, or the lower gives 21 by its own numbers
   pub apart : OneCall w after answer w2 after2 answer2 ⊎ ((answer ≡ Refused largeSet 0) × LargeBy l bytes left right)
-  -- where the lower reports, so does the higher, and the two do the same
-  pub lower-reports : (x : Reported) → answer ≡ Report x → OneCall w after answer w2 after2 answer2
-  -- where the lower refuses by another number than 21, so does the higher, by that number and at that place
-  pub lower-refuses : (number place : ℕ) → answer ≡ Refused number place → (number ≡ largeSet → ⊥) → OneCall w after answer w2 after2 answer2
-  -- where the higher refuses by another number than 22, so does the lower, by that number and at that place
+  -- where the higher refuses by another number than 22, the two do the same: beside the lower's 21 it reports, or gives 21 or 22
   pub higher-refuses : (number place : ℕ) → answer2 ≡ Refused number place → (number ≡ shortAnswer → ⊥) → OneCall w after answer w2 after2 answer2

@@ -22,14 +22,8 @@ use Rattle.answer_laws.specs.FittingLaws.{outcome-fits}
 use Rattle.answers.specs.ReadBack.{readBack}
 use Rattle.answer_laws.specs.ReadBackLaws.{read-back}
 use Rattle.compare_call.specs.Compared.{Compared}
+use Rattle.call_promise.specs.TwoCallSentences.{report-never, same-number}
 use Rattle.call_promise.specs.CallPromise.{verdictRead, reportRead, RefusalPromise, ReportPromise, CallPromise}
-
--- no report is a refusal
-report-never : {x : Reported} {number place : ℕ} → Report x ≡ Refused number place → ⊥
-report-never e = let z : _≡_ {A = ℕ} 0 1 = cc in omega arith
-
-same-number : {k p number place : ℕ} → Refused k p ≡ Refused number place → k ≡ number
-same-number e = cc
 
 same-place : {k p number place : ℕ} → Refused k p ≡ Refused number place → p ≡ place
 same-place e = cc

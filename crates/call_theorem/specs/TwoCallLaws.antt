@@ -15,7 +15,7 @@ use Rattle.comparison.specs.Report.{reportBytes}
 use Rattle.comparison.specs.Call.{compare, compareDesk}
 use Rattle.comparison.specs.Promise.{Refuses, by-sheet, short-work, large-set, short-answer, Reports}
 use Rattle.comparison_laws.specs.CallTheorem.{room-suffices, never-short}
-use Rattle.comparison_laws.specs.LimitLaws.{desk-no-greater, reports-same, reports-higher, refuses-higher, refuses-lower, Beside, report-of-both, refusal-of-both, lower-large, beside}
+use Rattle.comparison_laws.specs.LimitLaws.{desk-no-greater, reports-same, refuses-lower, Beside, report-of-both, refusal-of-both, lower-large, beside}
 use Rattle.answers.specs.declared.Reported.{Reported}
 use Rattle.answers.specs.declared.Answer.{Answer}
 use Rattle.answers.specs.declared.Answer.the-variants.{Report, Refused}
@@ -103,10 +103,6 @@ module _ (l h : Limits) (bytes : List ℕ) (left right : ℕ) where
     lower-call le =
         record {
           apart = given (beside l h bytes left right le);
-          lower-reports = λ x e.
-              let g = a .made x e .reports in both-report g (reports-higher l h bytes left right le g (g .work-room) (g .answer-room));
-          lower-refuses = λ number place e n.
-              both-refuse (a .refused number place e .refuses) (refuses-higher l h bytes left right le (a .refused number place e .refuses) n);
           higher-refuses = λ number place e n.
               both-refuse (refuses-lower l h bytes left right le (b .refused number place e .refuses) n) (b .refused number place e .refuses);
         }
