@@ -1,9 +1,13 @@
-/* Reads a sheet from a file and compares its starts 0 and 1, with --desk within the desk's limits.
+/* Reads a sheet from a file and compares its starts 0 and 1, with --desk within the desk's limits, or with
+ * --all all its starts.
  *
  *   gcc -I include c/compare.c target/staticlib/libhofadiju.a -o compare
- *   ./compare [--desk] samples/k-2-4.sheet
+ *   ./compare [--desk | --all] samples/k-2-4.sheet
  *
- * prints the verdict and the round, or the number and the place of the refusal. */
+ * prints the verdict and the round, or the number and the place of the refusal. With --all it prints the
+ * number of classes among the starts and the round, and then a line for each group of starts that behave
+ * alike. The exit status is 0 for SAME and for one group, 1 otherwise, 2 for a refusal and 3 where the file
+ * cannot be read. */
 #include "hofadiju.h"
 
 #include <stdio.h>
@@ -13,23 +17,103 @@
 static uint8_t sheet[HOFADIJU_LONGEST_SHEET + 1];
 static uint8_t answer[HOFADIJU_ANSWER_BYTES];
 static uint8_t desk_answer[HOFADIJU_DESK_ANSWER_BYTES];
+static uint8_t all_answer[HOFADIJU_ALL_ANSWER_BYTES];
 static uint32_t work[HOFADIJU_WORK_NUMBERS];
+
+static int refused(uint32_t number, size_t place)
+{
+    printf("REFUSED %lu %lu\n", (unsigned long)number, (unsigned long)place);
+    return 2;
+}
+
+/* Compares starts 0 and 1. */
+static int compare_two(size_t length, int desk)
+{
+    size_t result[HOFADIJU_RESULT_NUMBERS];
+    uint32_t number;
+
+    if (desk) {
+        number = hofadiju_compare_desk(sheet, length, 0, 1, desk_answer, sizeof desk_answer, work,
+                                       HOFADIJU_WORK_NUMBERS, result);
+    } else {
+        number = hofadiju_compare(sheet, length, 0, 1, answer, sizeof answer, work, HOFADIJU_WORK_NUMBERS, result);
+    }
+    if (number != HOFADIJU_REPORT) {
+        return refused(number, result[HOFADIJU_PLACE]);
+    }
+    printf("%s %lu\n", result[HOFADIJU_VERDICT] == HOFADIJU_SAME ? "SAME" : "DIFF",
+           (unsigned long)result[HOFADIJU_ROUND]);
+    return result[HOFADIJU_VERDICT] == HOFADIJU_SAME ? 0 : 1;
+}
+
+/* The number of two bytes at a place of the answer for all starts. */
+static size_t number_at(size_t at)
+{
+    return all_answer[at] + 256 * (size_t)all_answer[at + 1];
+}
+
+/* The first start that has this one's class; classes is where the classes of the starts begin. */
+static size_t first_alike(size_t classes, size_t start)
+{
+    size_t first = 0;
+
+    while (number_at(classes + 2 * first) != number_at(classes + 2 * start)) {
+        first++;
+    }
+    return first;
+}
+
+/* Compares all starts. */
+static int compare_all(size_t length)
+{
+    size_t result[HOFADIJU_ALL_RESULT_NUMBERS];
+    size_t classes, starts, groups, members, i, j;
+    uint32_t number;
+
+    number = hofadiju_compare_all(sheet, length, all_answer, sizeof all_answer, work, HOFADIJU_WORK_NUMBERS, result);
+    if (number != HOFADIJU_REPORT) {
+        return refused(number, result[HOFADIJU_ALL_PLACE]);
+    }
+    /* The classes of the starts begin after the last member. */
+    classes = 2;
+    for (members = number_at(0); members > 0; members--) {
+        classes += 5 + all_answer[classes + 2];
+    }
+    starts = (result[HOFADIJU_ALL_LENGTH] - classes) / 2;
+    groups = 0;
+    for (i = 0; i < starts; i++) {
+        groups += first_alike(classes, i) == i;
+    }
+    printf("CLASSES %lu %lu\n", (unsigned long)groups, (unsigned long)result[HOFADIJU_ALL_ROUND]);
+    for (i = 0; i < starts; i++) {
+        if (first_alike(classes, i) != i) {
+            continue;
+        }
+        printf("%lu", (unsigned long)i);
+        for (j = i + 1; j < starts; j++) {
+            if (first_alike(classes, j) == i) {
+                printf(" %lu", (unsigned long)j);
+            }
+        }
+        printf("\n");
+    }
+    return groups == 1 ? 0 : 1;
+}
 
 int main(int argc, char **argv)
 {
-    size_t result[HOFADIJU_RESULT_NUMBERS];
     size_t length;
-    uint32_t number;
     const char *name;
-    int desk;
+    int desk, all;
     FILE *file;
 
     desk = argc > 1 && strcmp(argv[1], "--desk") == 0;
-    if (argc != 2 + desk) {
-        fprintf(stderr, "usage: %s [--desk] FILE\n", argv[0]);
+    all = argc > 1 && strcmp(argv[1], "--all") == 0;
+    if (argc != 2 + desk + all) {
+        fprintf(stderr, "usage: %s [--desk | --all] FILE\n", argv[0]);
         return 3;
     }
-    name = argv[1 + desk];
+    name = argv[1 + desk + all];
     file = fopen(name, "rb");
     if (file == NULL) {
         perror(name);
@@ -42,18 +126,5 @@ int main(int argc, char **argv)
         return 3;
     }
     fclose(file);
-
-    if (desk) {
-        number = hofadiju_compare_desk(sheet, length, 0, 1, desk_answer, sizeof desk_answer, work,
-                                       HOFADIJU_WORK_NUMBERS, result);
-    } else {
-        number = hofadiju_compare(sheet, length, 0, 1, answer, sizeof answer, work, HOFADIJU_WORK_NUMBERS, result);
-    }
-    if (number != HOFADIJU_REPORT) {
-        printf("REFUSED %lu %lu\n", (unsigned long)number, (unsigned long)result[HOFADIJU_PLACE]);
-        return 2;
-    }
-    printf("%s %lu\n", result[HOFADIJU_VERDICT] == HOFADIJU_SAME ? "SAME" : "DIFF",
-           (unsigned long)result[HOFADIJU_ROUND]);
-    return result[HOFADIJU_VERDICT] == HOFADIJU_SAME ? 0 : 1;
+    return all ? compare_all(length) : compare_two(length, desk);
 }

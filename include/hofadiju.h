@@ -1,8 +1,8 @@
 /* Hofadiju: compares two starts of a control sheet (document 01), within document 01's limits or within
- * the quotation desk's (document 02, card 3).
+ * the quotation desk's (document 02, card 3), or all starts of a sheet together (document 02, card 1).
  *
  * Link with target/staticlib/libhofadiju.a, which `rt staticlib hofadiju` writes (x86-64 Linux). The
- * two functions keep no state: any number of threads may call them at the same time, each with its own
+ * three functions keep no state: any number of threads may call them at the same time, each with its own
  * slices. They allocate nothing. c/compare.c is an example.
  */
 #ifndef HOFADIJU_H
@@ -21,6 +21,9 @@ extern "C" {
 /* An answer slice of this many bytes always suffices for hofadiju_compare_desk. */
 #define HOFADIJU_DESK_ANSWER_BYTES 1277
 
+/* An answer slice of this many bytes always suffices for hofadiju_compare_all. */
+#define HOFADIJU_ALL_ANSWER_BYTES 6690
+
 /* The work slice must have at least this many numbers of 32 bits. */
 #define HOFADIJU_WORK_NUMBERS 16384
 
@@ -30,7 +33,7 @@ extern "C" {
 /* What the functions return: HOFADIJU_REPORT, or the number of a refusal. The place of a refusal is
  * the byte of the sheet at which the field begins, unless it is said otherwise. */
 enum hofadiju_number {
-    HOFADIJU_REPORT = 0,            /* a report was written */
+    HOFADIJU_REPORT = 0,            /* an answer was written */
     HOFADIJU_CUT_OFF = 1,           /* a field is cut off by the sheet's end; the place is the sheet's length */
     HOFADIJU_TOO_MANY_FACTS = 2,    /* more than 12 facts */
     HOFADIJU_BAD_NAME_BYTE = 3,     /* a name byte outside 32 to 126; the place is that byte's */
@@ -45,7 +48,8 @@ enum hofadiju_number {
     HOFADIJU_TOO_MANY_THREADS = 12, /* a start has more than 8 threads, as written or once opened; the
                                        place is its thread count */
     HOFADIJU_EXTRA_BYTES = 13,      /* bytes after the last start; the place is the first of them */
-    HOFADIJU_ABSENT_START = 14,     /* a chosen start is not on the sheet; place 0 for left, 1 for right */
+    HOFADIJU_ABSENT_START = 14,     /* a chosen start is not on the sheet; place 0 for left, 1 for right;
+                                       not where all starts are compared */
     HOFADIJU_WIDE_NODE = 15,        /* a node opens to more than 8 threads; the place is its kind byte */
     HOFADIJU_TOO_LARGE = 21,        /* more than 512 configurations (64 for the desk), one of more than 8
                                        threads, or more than 4096 moves in all (512 for the desk); place 0 */
@@ -53,7 +57,7 @@ enum hofadiju_number {
     HOFADIJU_WORK_SHORT = 23        /* the work slice is too short; place 0 */
 };
 
-/* Where the numbers stand in result. What does not apply is 0. */
+/* Where the numbers stand in result, where two starts are compared. What does not apply is 0. */
 enum hofadiju_result {
     HOFADIJU_VERDICT = 0, /* HOFADIJU_SAME or HOFADIJU_DIFF */
     HOFADIJU_ROUND = 1,   /* SAME: the round in which the refinement came to rest.
@@ -64,6 +68,14 @@ enum hofadiju_result {
     HOFADIJU_PLACE = 5    /* the place of the refusal */
 };
 #define HOFADIJU_RESULT_NUMBERS 6
+
+/* Where the numbers stand in result, where all starts are compared. What does not apply is 0. */
+enum hofadiju_all_result {
+    HOFADIJU_ALL_ROUND = 0,  /* the round in which the refinement came to rest */
+    HOFADIJU_ALL_LENGTH = 1, /* how many bytes of the answer slice the answer takes */
+    HOFADIJU_ALL_PLACE = 2   /* the place of the refusal */
+};
+#define HOFADIJU_ALL_RESULT_NUMBERS 3
 
 #define HOFADIJU_SAME 0
 #define HOFADIJU_DIFF 1
@@ -110,6 +122,32 @@ uint32_t hofadiju_compare(const uint8_t *sheet, size_t sheet_len, size_t left, s
 uint32_t hofadiju_compare_desk(const uint8_t *sheet, size_t sheet_len, size_t left, size_t right,
                                uint8_t *answer, size_t answer_len, uint32_t *work, size_t work_len,
                                size_t result[6]);
+
+/* Compares all starts of the sheet together. The set begins with every start, and its limits are those of
+ * hofadiju_compare: 512 configurations, 8 threads and 4096 moves in all. 21 goes by this set, which may be
+ * too large although the set of two starts is not.
+ *
+ * Two starts have the same class here exactly where hofadiju_compare of the two says HOFADIJU_SAME, if
+ * neither call is refused. The round is the set's own and may be larger than that of two starts.
+ *
+ * The pointers are as for hofadiju_compare, and result is always written whole. The answer, numbers of two
+ * bytes with the low byte first:
+ *   count of members        2 bytes
+ *   for each member, in order of store, number of threads and threads:
+ *     store                 2 bytes
+ *     count of threads      1 byte
+ *     threads               1 byte each
+ *     class                 2 bytes
+ *   for each start, in the sheet's order:
+ *     class                 2 bytes   equal starts are one member, and each has its class here
+ * There is no trail and no count of steps. Bytes of the answer slice beyond the length stay as they are; a
+ * refusal leaves the whole slice as it is. The work slice is used and left as by hofadiju_compare.
+ *
+ * The refusals come in this order: those of the sheet, 23, 21, 22. There is no 14. On the stack the call
+ * takes less than 64 KiB.
+ */
+uint32_t hofadiju_compare_all(const uint8_t *sheet, size_t sheet_len, uint8_t *answer, size_t answer_len,
+                              uint32_t *work, size_t work_len, size_t result[3]);
 
 #ifdef __cplusplus
 }

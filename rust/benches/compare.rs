@@ -5,11 +5,16 @@
 //! Both are given the same call: reading included, the same answer and work slices, the work slice
 //! cleared by the call; the reference also keeps its own buffers from call to call. For each sheet
 //! the two take turns, and the least time of several turns counts. A directory's `*.sheet` files form
-//! a class of their own. In classes called desk both are given the desk's limits.
+//! a class of their own. In classes called desk both are given the desk's limits; in classes called all
+//! starts both compare all sixteen starts of each sheet. A table of its own has these beside the
+//! comparison of two starts and of every two, all by the library.
 
-use hofadiju::{compare_desk_into, compare_into, Outcome, Refusal, ANSWER_BYTES, DESK_ANSWER_BYTES, WORK_NUMBERS};
-use reference::{fast::Comparer, Limits};
-use sheets::{alike_pair, draw, Rng, Shape, SHAPES};
+use hofadiju::{
+    compare_all_into, compare_desk_into, compare_into, Outcome, Refusal, ALL_ANSWER_BYTES, ANSWER_BYTES,
+    DESK_ANSWER_BYTES, WORK_NUMBERS,
+};
+use reference::{fast::Comparer, Limits, Returned};
+use sheets::{alike_pair, draw, variants, Rng, Shape, SHAPES};
 use std::hint::black_box;
 use std::path::{Path, PathBuf};
 use std::time::{Duration, Instant};
@@ -25,16 +30,16 @@ struct Slices {
 
 type CompareInto = fn(&[u8], usize, usize, &mut [u8], &mut [u32]) -> Result<Outcome, Refusal>;
 
-/// One of the library's two calls, the reference's limits for it and the length of its answer slice.
+/// One of the library's three calls: of two starts, with the reference's limits and the length of the
+/// answer slice, or of all starts.
 #[derive(Clone, Copy)]
-struct Call {
-    function: CompareInto,
-    limits: Limits,
-    answer: usize,
+enum Call {
+    Two { function: CompareInto, limits: Limits, answer: usize },
+    All,
 }
 
-const DOCUMENT: Call = Call { function: compare_into, limits: Limits::DOCUMENT, answer: ANSWER_BYTES };
-const DESK: Call = Call { function: compare_desk_into, limits: Limits::DESK, answer: DESK_ANSWER_BYTES };
+const DOCUMENT: Call = Call::Two { function: compare_into, limits: Limits::DOCUMENT, answer: ANSWER_BYTES };
+const DESK: Call = Call::Two { function: compare_desk_into, limits: Limits::DESK, answer: DESK_ANSWER_BYTES };
 
 struct Class {
     name: String,
@@ -47,6 +52,11 @@ impl Class {
     fn desk(&self) -> Class {
         Class { name: format!("{}, desk", self.name), call: DESK, sheets: self.sheets.clone() }
     }
+
+    /// The sheets for the call of all starts.
+    fn all_starts(self) -> Class {
+        Class { name: format!("{}, all starts", self.name), call: Call::All, sheets: self.sheets }
+    }
 }
 
 /// The least time of one call of each, in nanoseconds, and whether the sheet was refused.
@@ -57,14 +67,41 @@ struct Measured {
 }
 
 fn library(call: Call, sheet: &[u8], slices: &mut Slices) -> Result<usize, u32> {
-    let outcome = (call.function)(sheet, 0, 1, &mut slices.answer[..call.answer], &mut slices.work);
+    match call {
+        Call::Two { function, answer, .. } => two_starts(function, answer, sheet, (0, 1), slices),
+        Call::All => all_starts(sheet, slices),
+    }
+}
+
+fn two_starts(
+    function: CompareInto,
+    answer: usize,
+    sheet: &[u8],
+    (left, right): (usize, usize),
+    slices: &mut Slices,
+) -> Result<usize, u32> {
+    let outcome = function(sheet, left, right, &mut slices.answer[..answer], &mut slices.work);
+    outcome.map(|outcome| outcome.length).map_err(|refusal| refusal.number())
+}
+
+fn all_starts(sheet: &[u8], slices: &mut Slices) -> Result<usize, u32> {
+    let outcome = compare_all_into(sheet, &mut slices.answer[..ALL_ANSWER_BYTES], &mut slices.work);
     outcome.map(|outcome| outcome.length).map_err(|refusal| refusal.number())
 }
 
 fn peer(call: Call, sheet: &[u8], slices: &mut Slices, comparer: &mut Comparer) -> Result<usize, u32> {
-    match comparer.compare(call.limits, sheet, 0, 1, &mut slices.answer[..call.answer], &mut slices.work) {
-        (0, result) => Ok(result[4]),
-        (number, _) => Err(number),
+    let Slices { answer: bytes, work } = slices;
+    match call {
+        Call::Two { limits, answer, .. } => length(comparer.compare(limits, sheet, 0, 1, &mut bytes[..answer], work)),
+        Call::All => length(comparer.compare_all(Limits::DOCUMENT, sheet, &mut bytes[..ALL_ANSWER_BYTES], work)),
+    }
+}
+
+/// The answer's length, or the refusal's number.
+fn length<const N: usize>((number, result): Returned<N>) -> Result<usize, u32> {
+    match number {
+        0 => Ok(result[N - 2]),
+        refusal => Err(refusal),
     }
 }
 
@@ -94,6 +131,64 @@ fn measure(call: Call, sheet: &[u8], slices: &mut Slices, comparer: &mut Compare
         least.peer = least.peer.min(time(peer_calls, || peer(call, sheet, slices, comparer)));
     }
     least
+}
+
+/// The least times by the library of one call for all sixteen starts, of one for starts 0 and 1, and of
+/// the 120 calls for every two.
+struct Beside {
+    all: f64,
+    two: f64,
+    every_two: f64,
+}
+
+fn every_two(sheet: &[u8], slices: &mut Slices) -> usize {
+    let pairs = (0..16).flat_map(|left| (left + 1..16).map(move |right| (left, right)));
+    pairs.filter(|&pair| two_starts(compare_into, ANSWER_BYTES, sheet, pair, slices).is_ok()).count()
+}
+
+/// Of a sheet that is not refused, so that every two of its starts have a report.
+fn beside(sheet: &[u8], slices: &mut Slices) -> Beside {
+    assert_eq!(every_two(sheet, slices), 120, "{sheet:?}");
+    let all_calls = calls_in_a_turn(time(1, || all_starts(sheet, slices)));
+    let two_calls = calls_in_a_turn(time(1, || library(DOCUMENT, sheet, slices)));
+    let mut least = Beside { all: f64::MAX, two: f64::MAX, every_two: f64::MAX };
+    for _ in 0..TURNS {
+        least.all = least.all.min(time(all_calls, || all_starts(sheet, slices)));
+        least.two = least.two.min(time(two_calls, || library(DOCUMENT, sheet, slices)));
+        least.every_two = least.every_two.min(time(1, || every_two(sheet, slices)));
+    }
+    least
+}
+
+/// The rows of a class and, where it has few sheets, of each of them.
+fn beside_rows(class: &Class, slices: &mut Slices) -> String {
+    let sheets = class.sheets.iter().filter(|(_, sheet)| all_starts(sheet, slices).is_ok());
+    let sheets: Vec<&(String, Vec<u8>)> = sheets.collect();
+    let measured: Vec<Beside> = sheets.iter().map(|(_, sheet)| beside(sheet, slices)).collect();
+    if measured.is_empty() {
+        return String::new();
+    }
+    let mut rows = beside_row(&class.name, &measured);
+    if class.sheets.len() <= 40 {
+        for ((name, _), m) in sheets.iter().zip(&measured) {
+            rows += &beside_row(name, std::slice::from_ref(m));
+        }
+    }
+    rows
+}
+
+fn beside_row(name: &str, measured: &[Beside]) -> String {
+    let all = |of: fn(&Beside) -> f64| median(measured.iter().map(of).collect());
+    format!(
+        "| {name} | {} | {} | {} | {} | {:.2} | {:.2} | {:.3} |\n",
+        measured.len(),
+        micros(all(|m| m.all)),
+        micros(all(|m| m.two)),
+        micros(all(|m| m.every_two)),
+        all(|m| m.all / m.two),
+        all(|m| m.all / (m.every_two / 120.0)),
+        all(|m| m.all / m.every_two),
+    )
 }
 
 fn median(mut numbers: Vec<f64>) -> f64 {
@@ -143,10 +238,19 @@ fn main() {
         drawn("alike pairs", 200, 4, shape("medium"), alike_pair),
     ];
     let desk: Vec<Class> = random.iter().map(Class::desk).collect();
+    let sixteen = |name: &str| shape(name).with_starts(16, 16);
+    let together = [
+        drawn("small random", 200, 5, &sixteen("small"), draw),
+        drawn("medium random", 100, 6, &sixteen("medium"), draw),
+        drawn("large random", 100, 7, &sixteen("large"), draw),
+        drawn("medium variants", 100, 8, &sixteen("medium"), variants),
+        found(&here.join("benches/sixteen")),
+    ];
     let mut classes = vec![found(&here.join("../samples"))];
     classes.extend(random);
     classes.push(found(&here.join("benches/worst")));
     classes.extend(desk);
+    classes.extend(together.map(Class::all_starts));
     let words = std::env::args().skip(1).filter(|word| !word.starts_with('-'));
     classes.extend(words.map(|word| found(Path::new(&word))));
 
@@ -184,4 +288,10 @@ fn main() {
         }
     }
     println!("\n| Sheet | Ratio | Library | Reference |\n|---|---|---|---|\n{single}");
+    println!("Sixteen starts by the library, sheets that are not refused; medians.\n");
+    println!("| Sheets | Count | All starts | Starts 0 and 1 | Every two, 120 calls | All / starts 0 and 1 | All / mean of two | All / every two |");
+    println!("|---|---|---|---|---|---|---|---|");
+    for class in classes.iter().filter(|class| matches!(class.call, Call::All)) {
+        print!("{}", beside_rows(class, &mut slices));
+    }
 }

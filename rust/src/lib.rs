@@ -8,6 +8,8 @@
 //! [`compare_desk`] does the same within smaller limits, those of the quotation desk: 64 configurations
 //! and 512 moves in place of 512 and 4,096. Where both report, the reports are the same.
 //!
+//! [`compare_all`] compares all starts of a sheet together and groups those that behave alike.
+//!
 //! This crate is a thin safe wrapper around a static library that is written and proved in Rattle. It
 //! has no dependencies. Calls share no state, so any number of threads may call at the same time.
 //!
@@ -44,9 +46,11 @@
 
 #![warn(missing_docs)]
 
+mod grouping;
 mod refusal;
 mod report;
 
+pub use grouping::Grouping;
 pub use refusal::{Reason, Refusal};
 pub use report::{Member, Report, Side, Step, Verdict};
 
@@ -55,6 +59,9 @@ pub const ANSWER_BYTES: usize = 10_237;
 
 /// An answer slice of this many bytes always suffices for [`compare_desk_into`].
 pub const DESK_ANSWER_BYTES: usize = 1_277;
+
+/// An answer slice of this many bytes always suffices for [`compare_all_into`].
+pub const ALL_ANSWER_BYTES: usize = 6_690;
 
 /// The work slice must have at least this many numbers.
 pub const WORK_NUMBERS: usize = 16_384;
@@ -86,9 +93,19 @@ extern "C" {
         work_len: usize,
         result: *mut [usize; 6],
     ) -> u32;
+
+    fn hofadiju_compare_all(
+        sheet: *const u8,
+        sheet_len: usize,
+        answer: *mut u8,
+        answer_len: usize,
+        work: *mut u32,
+        work_len: usize,
+        result: *mut [usize; 3],
+    ) -> u32;
 }
 
-/// One of the library's two functions.
+/// One of the library's two functions that compare two starts.
 type Call =
     unsafe extern "C" fn(*const u8, usize, usize, usize, *mut u8, usize, *mut u32, usize, *mut [usize; 6]) -> u32;
 
@@ -222,8 +239,8 @@ fn outcome_by(
 ) -> Result<Outcome, Refusal> {
     let mut result = [0; 6];
     // SAFETY: each pointer comes with its length from a reference, so it is not null, is aligned and
-    // valid for that length, and the exclusive references overlap nothing. Both of the library's
-    // functions read `sheet`, write within `answer`, `work` and `result`, and keep no pointer.
+    // valid for that length, and the exclusive references overlap nothing. Both of the functions read
+    // `sheet`, write within `answer`, `work` and `result`, and keep no pointer.
     let number = unsafe {
         call(
             sheet.as_ptr(),
@@ -238,12 +255,18 @@ fn outcome_by(
         )
     };
     let [verdict, round, left, right, length, place] = result;
-    if number != 0 {
-        let reason = Reason::from_number(number).expect("the library returns a number of document 01");
-        return Err(Refusal { reason, place });
-    }
+    answered(number, place)?;
     let verdict = if verdict == 0 { Verdict::Same } else { Verdict::Diff };
     Ok(Outcome { verdict, round, left, right, length })
+}
+
+/// The refusal that a function has returned, where it is one.
+fn answered(number: u32, place: usize) -> Result<(), Refusal> {
+    if number == 0 {
+        return Ok(());
+    }
+    let reason = Reason::from_number(number).expect("the library returns a number of document 01");
+    Err(Refusal { reason, place })
 }
 
 impl Outcome {
@@ -251,5 +274,117 @@ impl Outcome {
     /// those bytes are not a report.
     pub fn report(&self, answer: &[u8]) -> Option<Report> {
         report::from_bytes(self, answer.get(..self.length)?)
+    }
+}
+
+/// What [`compare_all_into`] gives beside the bytes in the answer slice.
+#[derive(Clone, Copy, Debug, PartialEq, Eq, Hash)]
+pub struct AllOutcome {
+    /// The number of the round in which the refinement came to rest.
+    pub round: usize,
+    /// How many bytes of the answer slice the answer takes.
+    pub length: usize,
+}
+
+/// Compares all starts of a sheet together. The set of configurations begins with every start, and it
+/// may have 512 configurations and 4,096 moves.
+///
+/// Two starts share a class here exactly when [`compare`] of the two says [`Verdict::Same`], where
+/// neither call is refused. The round is that of the whole set, and may be larger than that of two
+/// starts.
+///
+/// # Example
+///
+/// Four starts: a tell, an ask before it, the tell beside a stop, nothing.
+///
+/// ```
+/// use hofadiju::{compare, compare_all, Verdict};
+///
+/// let mut sheet: Vec<u8> = Vec::new();
+/// sheet.push(1); // one fact
+/// sheet.extend_from_slice(b"lamp    ");
+/// sheet.push(0); // no rules
+/// sheet.push(4); // four nodes
+/// sheet.extend_from_slice(&[0, 0, 0, 0, 0]); // node 0: stop
+/// sheet.extend_from_slice(&[1, 1, 0, 0, 0]); // node 1: tell the set {lamp}
+/// sheet.extend_from_slice(&[2, 0, 0, 1, 0]); // node 2: ask nothing, then node 1
+/// sheet.extend_from_slice(&[3, 1, 0, 0, 0]); // node 3: both 1 and 0
+/// sheet.push(4); // four starts at the empty store
+/// sheet.extend_from_slice(&[0, 0, 1, 1]); // start 0: node 1
+/// sheet.extend_from_slice(&[0, 0, 1, 2]); // start 1: node 2
+/// sheet.extend_from_slice(&[0, 0, 1, 3]); // start 2: node 3
+/// sheet.extend_from_slice(&[0, 0, 0]); // start 3: no threads
+///
+/// let grouping = compare_all(&sheet)?;
+/// assert_eq!(grouping.groups(), [vec![0, 2], vec![1], vec![3]]);
+/// assert_eq!(grouping.classes[0], grouping.classes[2]);
+/// assert_eq!(compare(&sheet, 0, 2)?.verdict, Verdict::Same);
+/// assert_eq!(compare(&sheet, 0, 1)?.verdict, Verdict::Diff);
+/// assert_eq!(grouping.to_string(), "CLASSES 3 1\n0 2\n1\n3\n");
+/// # Ok::<(), hofadiju::Refusal>(())
+/// ```
+///
+/// # Errors
+///
+/// A sheet that is not well formed, or one whose set passes the limits, is refused; see [`Reason`]. The
+/// set may be too large although the set of any two starts is not. The refusals
+/// [`Reason::AbsentStart`], [`Reason::AnswerShort`] and [`Reason::WorkShort`] do not occur here.
+pub fn compare_all(sheet: &[u8]) -> Result<Grouping, Refusal> {
+    let mut answer = vec![0; ALL_ANSWER_BYTES];
+    let mut work = vec![0; WORK_NUMBERS];
+    let outcome = compare_all_into(sheet, &mut answer, &mut work)?;
+    Ok(outcome.grouping(&answer).expect("the library writes the answer's layout"))
+}
+
+/// Compares as [`compare_all`] does, and allocates nothing.
+///
+/// `answer` and `work` are used as by [`compare_into`], and `work` must be as long as there.
+/// [`ALL_ANSWER_BYTES`] bytes of `answer` always suffice. [`AllOutcome::grouping`] takes the bytes apart.
+///
+/// # Example
+///
+/// ```
+/// use hofadiju::{compare_all, compare_all_into, ALL_ANSWER_BYTES, WORK_NUMBERS};
+///
+/// // No facts, no rules, one node, a stop; two starts without threads.
+/// let sheet = [0, 0, 1, 0, 0, 0, 0, 0, 2, 0, 0, 0, 0, 0, 0];
+/// let mut answer = [0; ALL_ANSWER_BYTES];
+/// let mut work = [0; WORK_NUMBERS];
+/// let outcome = compare_all_into(&sheet, &mut answer, &mut work)?;
+/// // One member: its count, store, number of threads and class. Then the class of each start.
+/// assert_eq!(answer[..outcome.length], [1, 0, 0, 0, 0, 0, 0, 0, 0, 0, 0]);
+/// assert_eq!(outcome.grouping(&answer), Some(compare_all(&sheet)?));
+/// # Ok::<(), hofadiju::Refusal>(())
+/// ```
+///
+/// # Errors
+///
+/// As [`compare_all`], and also [`Reason::WorkShort`] and [`Reason::AnswerShort`]. A refusal leaves
+/// `answer` untouched.
+pub fn compare_all_into(sheet: &[u8], answer: &mut [u8], work: &mut [u32]) -> Result<AllOutcome, Refusal> {
+    let mut result = [0; 3];
+    // SAFETY: as in `outcome_by`; this function too reads `sheet`, writes within `answer`, `work` and
+    // `result`, and keeps no pointer.
+    let number = unsafe {
+        hofadiju_compare_all(
+            sheet.as_ptr(),
+            sheet.len(),
+            answer.as_mut_ptr(),
+            answer.len(),
+            work.as_mut_ptr(),
+            work.len(),
+            &mut result,
+        )
+    };
+    let [round, length, place] = result;
+    answered(number, place)?;
+    Ok(AllOutcome { round, length })
+}
+
+impl AllOutcome {
+    /// The grouping that stands in the first [`AllOutcome::length`] bytes of `answer`, or `None` where
+    /// those bytes are not one.
+    pub fn grouping(&self, answer: &[u8]) -> Option<Grouping> {
+        grouping::from_bytes(self, answer.get(..self.length)?)
     }
 }

@@ -34,14 +34,14 @@ pub enum Reason {
     TooManyThreads = 12,
     /// Bytes after the last start.
     ExtraBytes = 13,
-    /// A chosen start is not on the sheet.
+    /// A chosen start is not on the sheet. Where all starts are compared this does not occur.
     AbsentStart = 14,
     /// A node opens to more than eight threads.
     WideNode = 15,
     /// More than 512 configurations (64 for the desk), a configuration of more than eight threads, or
     /// more than 4,096 moves (512 for the desk).
     TooLarge = 21,
-    /// The answer slice is shorter than the report.
+    /// The answer slice is shorter than the answer.
     AnswerShort = 22,
     /// The work slice is shorter than 16,384 numbers.
     WorkShort = 23,
@@ -87,7 +87,7 @@ pub struct Refusal {
     /// What is wrong.
     pub reason: Reason,
     /// Where it is wrong: for 1 to 13 and 15 the byte of the sheet; for 14 0 for the left start and 1
-    /// for the right one; for 22 the length that the report needs; for 21 and 23 0.
+    /// for the right one; for 22 the length that the answer needs; for 21 and 23 0.
     pub place: usize,
 }
 
@@ -130,7 +130,7 @@ impl fmt::Display for Refusal {
                 "the comparison is too large: more than 512 configurations (64 for the desk), more than 8 threads \
                  in one of them, or more than 4096 moves in all (512 for the desk)"
             ),
-            Reason::AnswerShort => write!(f, "the answer slice is too short: the report has {place} bytes"),
+            Reason::AnswerShort => write!(f, "the answer slice is too short: the answer has {place} bytes"),
             Reason::WorkShort => write!(f, "the work slice is shorter than 16384 numbers"),
         }
     }

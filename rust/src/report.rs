@@ -21,7 +21,7 @@ pub enum Side {
     Right,
 }
 
-/// A configuration of the comparison's set, with its class.
+/// A configuration of a comparison's set, with its class.
 #[derive(Clone, Debug, PartialEq, Eq, Hash)]
 pub struct Member {
     /// The store: fact i has weight 2 to the power i.
@@ -67,8 +67,8 @@ pub struct Report {
 }
 
 /// Reads an answer's bytes from the front.
-struct Bytes<'a> {
-    rest: &'a [u8],
+pub(crate) struct Bytes<'a> {
+    pub(crate) rest: &'a [u8],
 }
 
 impl Bytes<'_> {
@@ -78,8 +78,14 @@ impl Bytes<'_> {
         Some(first)
     }
 
-    fn number(&mut self) -> Option<u16> {
+    pub(crate) fn number(&mut self) -> Option<u16> {
         Some(u16::from_le_bytes([self.byte()?, self.byte()?]))
+    }
+
+    /// The members, after their count.
+    pub(crate) fn members(&mut self) -> Option<Vec<Member>> {
+        let count = self.number()?;
+        (0..count).map(|_| self.member()).collect()
     }
 
     fn member(&mut self) -> Option<Member> {
@@ -109,8 +115,7 @@ impl Bytes<'_> {
 /// The report with these bytes, where they are one and nothing is left over.
 pub(crate) fn from_bytes(outcome: &Outcome, bytes: &[u8]) -> Option<Report> {
     let mut bytes = Bytes { rest: bytes };
-    let count = bytes.number()?;
-    let members = (0..count).map(|_| bytes.member()).collect::<Option<Vec<Member>>>()?;
+    let members = bytes.members()?;
     let count = bytes.number()?;
     let steps = (0..count).map(|_| bytes.step()).collect::<Option<Vec<Step>>>()?;
     let Outcome { verdict, round, left, right, length: _ } = *outcome;

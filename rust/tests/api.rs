@@ -1,10 +1,10 @@
 //! The crate's own functions: values, texts, and document 01's known sheets.
 
 use hofadiju::{
-    compare, compare_desk, compare_desk_into, compare_into, Outcome, Reason, Refusal, Report, Side, Verdict,
-    ANSWER_BYTES, DESK_ANSWER_BYTES, WORK_NUMBERS,
+    compare, compare_all, compare_all_into, compare_desk, compare_desk_into, compare_into, AllOutcome, Outcome, Reason,
+    Refusal, Report, Side, Verdict, ALL_ANSWER_BYTES, ANSWER_BYTES, DESK_ANSWER_BYTES, WORK_NUMBERS,
 };
-use sheets::{alike_pair, Draft, Rng, ASK, BOTH, EITHER, SHAPES, STOP, TELL};
+use sheets::{alike_pair, variants, Draft, Rng, ASK, BOTH, EITHER, SHAPES, STOP, TELL};
 use std::path::Path;
 
 /// Sheet K of document 01 with these two starts.
@@ -87,6 +87,14 @@ fn samples() {
         };
         let expected = std::fs::read_to_string(path.with_extension("report")).unwrap();
         assert_eq!(printed, expected, "{}", path.display());
+        // The samples have two starts, or are refused.
+        match (compare_all(&sheet), compare(&sheet, 0, 1)) {
+            (Ok(grouping), Ok(report)) => {
+                let groups = if report.verdict == Verdict::Same { vec![vec![0, 1]] } else { vec![vec![0], vec![1]] };
+                assert_eq!((grouping.groups(), grouping.members), (groups, report.members), "{}", path.display());
+            }
+            (all, two) => assert_eq!(all.err(), two.err(), "{}", path.display()),
+        }
         held += 1;
     }
     assert!(held >= 4);
@@ -146,6 +154,59 @@ fn functions_agree(compare: Compare, compare_into: CompareInto, room: usize) {
 }
 
 #[test]
+fn the_two_functions_for_all_starts_agree() {
+    let mut rng = Rng::new(33);
+    let mut answer = vec![0xEE; ALL_ANSWER_BYTES];
+    let mut work = vec![0xEEEE; WORK_NUMBERS];
+    for i in 0..2_000 {
+        let draft = variants(&SHAPES[i % SHAPES.len()].with_starts(2, 16), &mut rng);
+        let bytes = draft.bytes();
+        let outcome = compare_all_into(&bytes, &mut answer, &mut work);
+        match (compare_all(&bytes), outcome) {
+            (Ok(grouping), Ok(outcome)) => {
+                assert_eq!(outcome.grouping(&answer).as_ref(), Some(&grouping));
+                assert_eq!(outcome.grouping(&answer[..outcome.length - 1]), None);
+                let AllOutcome { round, length } = outcome;
+                assert_eq!(AllOutcome { round, length: length - 1 }.grouping(&answer), None);
+                let threads: usize = grouping.members.iter().map(|member| member.threads.len()).sum();
+                assert_eq!(length, 2 + 5 * grouping.members.len() + threads + 2 * draft.starts.len());
+                groups_are_the_classes(&grouping.classes, &grouping.groups());
+                let lines = 1 + grouping.groups().len();
+                let text = grouping.to_string();
+                assert_eq!(text.lines().count(), lines);
+                assert!(text.ends_with('\n'));
+            }
+            (Err(refusal), Err(other)) => assert_eq!(refusal, other),
+            _ => panic!("one of the two is refused: {bytes:?}"),
+        }
+    }
+}
+
+/// Each start is in one group, with exactly the starts of its class; groups and starts ascend.
+fn groups_are_the_classes(classes: &[usize], groups: &[Vec<usize>]) {
+    let mut starts = groups.concat();
+    starts.sort();
+    assert_eq!(starts, (0..classes.len()).collect::<Vec<_>>());
+    for group in groups {
+        assert!(group.is_sorted());
+        assert!((0..classes.len()).all(|start| group.contains(&start) == (classes[start] == classes[group[0]])));
+    }
+    assert!(groups.is_sorted_by_key(|group| group[0]));
+}
+
+#[test]
+fn bytes_that_are_no_grouping() {
+    let grouping = |bytes: &[u8]| AllOutcome { round: 0, length: bytes.len() }.grouping(bytes);
+    // No member, and the classes of 1 to 17 starts.
+    for starts in 1..=17 {
+        assert_eq!(grouping(&vec![0; 2 + 2 * starts]).is_some(), (2..=16).contains(&starts));
+    }
+    for bytes in [&[][..], &[0], &[0; 7], &[1, 0, 0, 0, 3, 0, 0]] {
+        assert_eq!(grouping(bytes), None);
+    }
+}
+
+#[test]
 fn the_desk_reports_the_same_or_is_too_large() {
     let mut rng = Rng::new(32);
     let (mut reports, mut too_large) = (0, 0);
@@ -175,17 +236,23 @@ fn short_slices() {
     assert_eq!(refusal, Refusal { reason: Reason::AnswerShort, place: 38 });
     let refusal = compare_desk_into(&bytes, 0, 1, &mut [], &mut []).unwrap_err();
     assert_eq!(refusal, Refusal { reason: Reason::WorkShort, place: 0 });
+    let refusal = compare_all_into(&bytes, &mut [], &mut work).unwrap_err();
+    assert_eq!(refusal, Refusal { reason: Reason::AnswerShort, place: 40 });
+    let refusal = compare_all_into(&bytes, &mut [], &mut []).unwrap_err();
+    assert_eq!(refusal, Refusal { reason: Reason::WorkShort, place: 0 });
 }
 
 #[test]
 fn threads_call_at_the_same_time() {
     let sheet = sheet_k((0, &[2]), (0, &[7]));
     let expected = compare(&sheet, 0, 1).unwrap();
+    let grouping = compare_all(&sheet).unwrap();
     std::thread::scope(|scope| {
         for _ in 0..4 {
             scope.spawn(|| {
                 for _ in 0..200 {
                     assert_eq!(compare(&sheet, 0, 1).as_ref(), Ok(&expected));
+                    assert_eq!(compare_all(&sheet).as_ref(), Ok(&grouping));
                 }
             });
         }

@@ -15,9 +15,9 @@ fn damaged_sheets() {
         let mut bytes = draw(&SHAPES[i % SHAPES.len()], &mut rng).bytes();
         damage(&mut bytes, &mut rng);
         if i % 20 == 0 {
-            harness.compare_with_all_lengths(&bytes, rng.below(2), rng.below(2));
+            harness.compare_with_all_lengths(&bytes, (rng.below(2), rng.below(2)));
         } else {
-            harness.compare(&bytes, rng.below(2), rng.below(2));
+            harness.compare(&bytes, (rng.below(2), rng.below(2)));
         }
     }
     println!("{:?}", harness.seen);
@@ -32,13 +32,13 @@ fn every_cut_and_every_byte_of_a_sheet() {
     let mut rng = Rng::new(201);
     let bytes = draw(&SHAPES[2], &mut rng).bytes();
     for end in 0..bytes.len() {
-        assert_eq!(harness.compare(&bytes[..end], 0, 1), (1, [0, 0, 0, 0, 0, end]));
+        assert_eq!(harness.compare(&bytes[..end], (0, 1)), (1, [0, 0, 0, 0, 0, end]));
     }
     for at in 0..bytes.len() {
         for value in 0..=255 {
             let mut changed = bytes.clone();
             changed[at] = value;
-            harness.compare(&changed, 0, 1);
+            harness.compare(&changed, (0, 1));
         }
     }
 }
@@ -51,11 +51,11 @@ fn random_bytes() {
         let length = rng.below(40);
         let high = rng.pick(&[3, 6, 256]);
         let bytes: Vec<u8> = (0..length).map(|_| rng.below(high) as u8).collect();
-        harness.compare(&bytes, rng.below(3), rng.below(3));
+        harness.compare(&bytes, (rng.below(3), rng.below(3)));
     }
     for length in [724, 725, 1_000, 100_000] {
-        harness.compare(&vec![0; length], 0, 1);
-        harness.compare(&vec![32; length], 0, 1);
+        harness.compare(&vec![0; length], (0, 1));
+        harness.compare(&vec![32; length], (0, 1));
     }
 }
 
@@ -67,7 +67,7 @@ fn any_start_numbers() {
     for i in 0..2_000 {
         let draft = draw(&SHAPES[i % SHAPES.len()], &mut rng);
         let (left, right) = (rng.pick(&numbers), rng.pick(&numbers));
-        let returned = harness.compare(&draft.bytes(), left, right);
+        let returned = harness.compare(&draft.bytes(), (left, right));
         let starts = draft.starts.len();
         if left >= starts {
             assert_eq!(returned, (14, [0; 6]));

@@ -41,7 +41,7 @@ impl Judged<'_> {
     /// The length of the longer report, or some length where there is none.
     fn needed(&self) -> usize {
         match &self.document {
-            Judgement::Report { bytes, .. } => bytes.len(),
+            Judgement::Answer { bytes, .. } => bytes.len(),
             _ => 100,
         }
     }
@@ -53,8 +53,8 @@ impl Pair {
     }
 
     fn judge<'a>(&mut self, sheet: &'a [u8], left: usize, right: usize) -> Judged<'a> {
-        let document = self.document.judge(sheet, left, right);
-        let desk = self.desk.judge(sheet, left, right);
+        let document = self.document.judge(sheet, (left, right));
+        let desk = self.desk.judge(sheet, (left, right));
         Judged { sheet, starts: (left, right), document, desk }
     }
 
@@ -93,8 +93,8 @@ impl Pair {
 
     /// As `compare`, and with slices of lengths around those that either call needs.
     fn compare_with_all_lengths(&mut self, sheet: &[u8], left: usize, right: usize) -> (Returned, Returned) {
-        self.desk.compare_with_all_lengths(sheet, left, right);
-        self.document.compare_with_all_lengths(sheet, left, right);
+        self.desk.compare_with_all_lengths(sheet, (left, right));
+        self.document.compare_with_all_lengths(sheet, (left, right));
         let judged = self.judge(sheet, left, right);
         let needed = judged.needed();
         for answer_len in [0, needed - 1, needed] {
@@ -298,7 +298,7 @@ fn deep_trails() {
         let (desk, _) = pair.compare_with_all_lengths(&bytes, 0, 1);
         let (number, [verdict, rounds, .., needed, _]) = desk;
         assert_eq!((number, verdict, rounds, needed), (0, 1, round, length));
-        let Judgement::Report { bytes, .. } = pair.judge(&bytes, 0, 1).desk else { panic!("refused") };
+        let Judgement::Answer { bytes, .. } = pair.judge(&bytes, 0, 1).desk else { panic!("refused") };
         assert_eq!(counts(&bytes), (members, round as u16));
     }
 }

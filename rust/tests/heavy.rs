@@ -13,7 +13,7 @@ fn bare() -> Draft {
 
 fn compare(harness: &mut Harness, draft: &Draft) {
     assert!(draft.nodes.len() <= 64);
-    assert!(matches!(harness.compare_with_all_lengths(&draft.bytes(), 0, 1).0, 0 | 21));
+    assert!(matches!(harness.compare_with_all_lengths(&draft.bytes(), (0, 1)).0, 0 | 21));
 }
 
 #[test]
@@ -153,7 +153,7 @@ fn many_members() {
     let shape = Shape { nodes: (30, 60), facts: (1, 6), rules: (0, 4), threads: (2, 4), store: 2, ..medium.clone() };
     let mut large = 0;
     for _ in 0..3_000 {
-        let (number, result) = harness.compare(&draw(&shape, &mut rng).bytes(), 0, 1);
+        let (number, result) = harness.compare(&draw(&shape, &mut rng).bytes(), (0, 1));
         large += usize::from(number == 0 && result[4] > 1_500);
     }
     println!("{large} large reports of {}", harness.seen[0]);
@@ -167,7 +167,7 @@ fn kept_slow_sheets() {
     for entry in std::fs::read_dir(folder).unwrap() {
         let path = entry.unwrap().path();
         if path.extension().is_some_and(|ending| ending == "sheet") {
-            harness.compare(&std::fs::read(path).unwrap(), 0, 1);
+            harness.compare(&std::fs::read(path).unwrap(), (0, 1));
         }
     }
 }

@@ -19,9 +19,9 @@ fn sheets_of_every_shape() {
             let (left, right) = if i % 3 == 2 { (0, 1) } else { (rng.below(starts), rng.below(starts)) };
             let bytes = draft.bytes();
             if i % 50 == 0 {
-                harness.compare_with_all_lengths(&bytes, left, right);
+                harness.compare_with_all_lengths(&bytes, (left, right));
             } else {
-                harness.compare(&bytes, left, right);
+                harness.compare(&bytes, (left, right));
             }
         }
     }

@@ -1,5 +1,5 @@
 //! Each refusal of document 01, its condition just met and just not met. The desk's own numbers for 21
-//! are in desk.rs.
+//! are in desk.rs, the limits over all starts in all_starts.rs.
 
 mod common;
 
@@ -32,10 +32,13 @@ fn harnesses() -> [Harness; 2] {
     [Harness::new(1), Harness::desk(1)]
 }
 
-/// The desk's call is held too: it gives the same, or 21 beside a report.
+/// The desk's call and that of all starts are held too: they give the same, or 21 beside a report.
 fn number_of(bytes: &[u8]) -> (u32, usize) {
     let [number, desk] = harnesses().map(|mut harness| harness.number(bytes));
-    assert!(desk == number || desk == (21, 0) && number == (0, 0), "{desk:?} {number:?} {bytes:?}");
+    let all = Harness::all(1).number(bytes);
+    for other in [desk, all] {
+        assert!(other == number || other == (21, 0) && number == (0, 0), "{other:?} {number:?} {bytes:?}");
+    }
     number
 }
 
@@ -245,7 +248,7 @@ fn refusal_14_absent_starts() {
     let mut harnesses = harnesses();
     let mut chosen = |bytes: &[u8], left, right| {
         let [(number, result), desk] =
-            harnesses.each_mut().map(|harness| harness.compare_with_all_lengths(bytes, left, right));
+            harnesses.each_mut().map(|harness| harness.compare_with_all_lengths(bytes, (left, right)));
         assert_eq!((number, result), desk);
         (number, result[5])
     };
@@ -352,8 +355,8 @@ fn refusal_21_threads() {
 fn refusals_22_and_23_slices() {
     let mut harnesses = harnesses();
     let bytes = good().bytes();
-    let judgement = harnesses[0].judge(&bytes, 0, 1);
-    assert_eq!(judgement, harnesses[1].judge(&bytes, 0, 1));
+    let judgement = harnesses[0].judge(&bytes, (0, 1));
+    assert_eq!(judgement, harnesses[1].judge(&bytes, (0, 1)));
     let (_, [_, _, _, _, length, _]) = judgement.returned(ANSWER, WORK);
     let mut held = |answer_len, work_len| {
         let [(number, result), desk] =
@@ -387,10 +390,10 @@ fn refusal_23_before_21_and_after_14() {
     };
     let bytes = growing.bytes();
     for mut harness in harnesses() {
-        let judgement = harness.judge(&bytes, 0, 1);
+        let judgement = harness.judge(&bytes, (0, 1));
         assert_eq!(harness.hold(&judgement, &bytes, (0, 1), 0, WORK - 1), (23, [0; 6]));
         assert_eq!(harness.hold(&judgement, &bytes, (0, 1), 0, WORK), (21, [0; 6]));
-        let judgement = harness.judge(&bytes, 0, 2);
+        let judgement = harness.judge(&bytes, (0, 2));
         assert_eq!(harness.hold(&judgement, &bytes, (0, 2), 0, 0), (14, [0, 0, 0, 0, 0, 1]));
     }
 }

@@ -1,4 +1,4 @@
--- What a report must be so that its bytes hold it: its numbers fit their bytes, and what its steps name is on its list.
+-- What an answer must be so that its bytes hold it: its numbers fit their bytes, and what a report's steps name is on its list.
 use mathlib.Core.Path.{_≡_}
 use mathlib.Core.List.{List, List·Memᴰ}
 use Prim.Native.Nat.{ℕ, _≤_, _<_}
@@ -21,12 +21,16 @@ pub record StepFits (set : List Configuration) (t : TrailStep) : Type 0 where
   pub target : List·Memᴰ (t .target) set
   pub reply : ReplyFits set (t .label) (t .reply)
 
+-- members in their order, with a class each
+pub record MembersFit (members : List Configuration) (numbers : List ℕ) : Type 0 where
+  pub ordered : Ascends configurationBefore members
+  pub stores : (p : Configuration) → List·Memᴰ p members → p .store < 65536
+  pub threads : (p : Configuration) → List·Memᴰ p members → length (p .threads) ≤ maxThreads
+  pub numbered : length numbers ≡ length members
+  pub classes : (i : ℕ) → i < length members → getD numbers i 0 < 65536
+  pub few : length members ≤ limits .members
+
 pub record Fitting (q : Report) : Type 0 where
-  pub ordered : Ascends configurationBefore (q .members)
-  pub stores : (p : Configuration) → List·Memᴰ p (q .members) → p .store < 65536
-  pub threads : (p : Configuration) → List·Memᴰ p (q .members) → length (p .threads) ≤ maxThreads
-  pub numbered : length (q .classes) ≡ length (q .members)
-  pub classes : (i : ℕ) → i < length (q .members) → getD (q .classes) i 0 < 65536
+  pub listed : MembersFit (q .members) (q .classes)
   pub steps : (t : TrailStep) → List·Memᴰ t (q .steps) → StepFits (q .members) t
-  pub few-members : length (q .members) ≤ limits .members
   pub few-steps : length (q .steps) ≤ limits .members

@@ -7,11 +7,7 @@ use Prim.Native.Nat.{ℕ, zero, suc, _+_, _-_, _^_, _≤_, _<_}
 use native.Mathlib.Omega.{arith}
 use lib.Pow.{pow-mono}
 use lib.ListN.{length, getD}
-use lib.Dec.{eqb, ltb}
-use borrow.Author.Tests.{ltb-false}
-use Rattle.list_laws.specs.TestLaws.{or-false}
-use Rattle.lists.specs.Lists.{any}
-use Rattle.list_laws.specs.Members.{any-no}
+use lib.Dec.{eqb}
 use Rattle.list_laws.specs.ListPlaces.{getD-in}
 use Rattle.stores.specs.Stores.{Constraint}
 use Rattle.sheets.specs.SheetLimits.{maxFacts}
@@ -22,7 +18,7 @@ use Rattle.moves.specs.Orders.{Move}
 use Rattle.moves.specs.Moves.{moves}
 use Rattle.refinement_laws.specs.StableRounds.{member-of}
 use Rattle.comparison.specs.CallLimits.{Limits, NoGreater, limits}
-use Rattle.comparison.specs.Set.{explored, fits}
+use Rattle.comparison.specs.Set.{over, explored, fits}
 use Rattle.comparison.specs.Classes.{numberedFrom, numbered}
 use Rattle.comparison_laws.specs.ClassLaws.{Numbering, no-more, in-use, next, numberedFrom-numbering, numbered-length}
 use Rattle.comparison.specs.Rounds.{rounds, classes, refined, resultOf, apartIn, storesEqual, together}
@@ -31,15 +27,16 @@ use Rattle.comparison_laws.specs.TrailLaws.{unanswered-mem, reply-mem, trail-le
 use Rattle.comparison.specs.Report.{Report, reportOn}
 use Rattle.comparison.specs.Outcome.{reported}
 use Rattle.comparison.specs.Call.{compareWith}
-use Rattle.comparison.specs.Promise.{PassesLimit, startsOf}
-use Rattle.comparison_laws.specs.SetLaws.{explored-seeds, explored-member, explored-ascends, explored-closed, fits-not-over, limit-passed}
+use Rattle.comparison.specs.Promise.{startsOf}
+use Rattle.comparison_laws.specs.SetLaws.{explored-seeds, explored-member, explored-ascends, explored-closed, fits-not-over, fits-unpassed}
 use Rattle.comparison_laws.specs.RoundLaws.{ClosedList}
 use Rattle.comparison_laws.specs.SheetMoves.{lawful}
 use Rattle.comparison.specs.SheetTransitions.{transitions}
 use Rattle.comparison_laws.specs.ResultLaws.{classes-length, rounds-of, rounds-at, result-is}
+use Rattle.comparison_laws.specs.ReportLaws.{within-limits}
 use Rattle.comparison_laws.specs.Theorem.{member-some}
 use Rattle.comparison_laws.specs.CallTheorem.{reports-exactly}
-use Rattle.answer_laws.specs.Fitting.{ReplyFits, StepFits, Fitting}
+use Rattle.answer_laws.specs.Fitting.{ReplyFits, StepFits, MembersFit, Fitting}
 
 -- ---- classes
 -- a number is one of those in use, or one of as many more as there are numbers
@@ -141,7 +138,39 @@ module _ (sheet : Sheet) (fine : Admissible sheet) where
             (λ m i. unanswered-mem sheet set rs classes p q i .0)
             (λ k i. unanswered-mem sheet set rs classes q p i .0)
 
-  -- ---- the report on two configurations of the sheet whose set passes no limit
+  -- ---- the set that grows from configurations of the sheet and passes no limit, with the classes of the result's round
+  module _ (l : Limits) (small : NoGreater l limits) (seeds : List Configuration) (of : (m : Configuration) → List·Memᴰ m seeds → OfSheet sheet m)
+      (fit : fits sheet l (explored sheet l seeds) ≡ true) (some : 1 ≤ length (explored sheet l seeds)) where
+    abbrev set-of : List Configuration
+    set-of = explored sheet l seeds
+
+    abbrev rounds-of-set : List (List ℕ)
+    rounds-of-set = rounds sheet set-of
+
+    within : over l set-of ≡ false
+    within = fits-not-over sheet l seeds fit
+
+    few-members : length set-of ≤ limits .members
+    few-members = omega (arith, within-limits l set-of within .0, small .members)
+
+    pub members-fit : MembersFit set-of (getD rounds-of-set (resultOf rounds-of-set) [])
+    members-fit =
+        let closed = explored-closed sheet l seeds within in
+        let last : resultOf rounds-of-set < length rounds-of-set = omega (arith, rounds-of sheet set-of wf closed some .some) in
+        let at = rounds-at sheet set-of wf closed some (resultOf rounds-of-set) last in
+        record {
+          ordered = explored-ascends sheet l seeds;
+          stores = λ m i.
+              constraint-small (member-of (transitions sheet) (lawful sheet wf) seeds of m (explored-member sheet l seeds m i) .store);
+          threads = λ m i. omega (arith, within-limits l set-of within .1 m i, small .threads);
+          numbered = ap length at ∙ classes-length sheet set-of (resultOf rounds-of-set);
+          classes = λ i h.
+              subst (λ (c : List ℕ). getD c i 0 < 65536) (sym at)
+              (omega (arith, classes-small sheet set-of (resultOf rounds-of-set) i, few-members));
+          few = few-members;
+        }
+
+  -- the report on two configurations of the sheet
   pub report-fits : (l : Limits) → NoGreater l limits → (p q : Configuration) → OfSheet sheet p → OfSheet sheet q
       → fits sheet l (explored sheet l (p ∷ q ∷ [])) ≡ true
       → Fitting (reportOn sheet (explored sheet l (p ∷ q ∷ [])) p q)
@@ -150,31 +179,15 @@ module _ (sheet : Sheet) (fine : Admissible sheet) where
       let seeds : List Configuration = p ∷ q ∷ [] in
       let set : List Configuration = explored sheet l seeds in
       let rs : List (List ℕ) = rounds sheet set in
-      let within = fits-not-over sheet l seeds fit in
-      let closed = explored-closed sheet l seeds within in
+      let closed = explored-closed sheet l seeds (fits-not-over sheet l seeds fit) in
       let some = member-some set (explored-seeds sheet l seeds p (List·Memᴰ·head refl)) in
-      let no = or-false (ltb (l .members) (length set)) (any (λ m. ltb (l .threads) (length (m .threads))) set) within in
-      let few : length set ≤ l .members = ltb-false (l .members) (length set) (no .0) in
-      let result = result-is sheet set wf closed some in
-      let last : resultOf rs < length rs = omega (arith, rounds-of sheet set wf closed some .some) in
+      let listed = members-fit l small seeds of fit some in
       record {
-        ordered = explored-ascends sheet l seeds;
-        stores = λ m i.
-            constraint-small (member-of (transitions sheet) (lawful sheet wf) seeds of m (explored-member sheet l seeds m i) .store);
-        threads = λ m i.
-            let h : length (m .threads) ≤ l .threads =
-            ltb-false (l .threads) (length (m .threads)) (any-no (λ m. ltb (l .threads) (length (m .threads))) set (no .1) i) in
-            omega (arith, h, small .threads);
-        numbered =
-            ap length (rounds-at sheet set wf closed some (resultOf rs) last) ∙ classes-length sheet set (resultOf rs);
-        classes = λ i h.
-            subst (λ (l : List ℕ). getD l i 0 < 65536) (sym (rounds-at sheet set wf closed some (resultOf rs) last))
-            (omega (arith, classes-small sheet set (resultOf rs) i, few, small .members));
+        listed = listed;
         steps =
             trail-fits set rs closed (length rs) p q (explored-seeds sheet l seeds p (List·Memᴰ·head refl))
             (explored-seeds sheet l seeds q (List·Memᴰ·tail (List·Memᴰ·head refl)));
-        few-members = omega (arith, few, small .members);
-        few-steps = omega (arith, trail-length sheet set rs p q, result .few, few, small .members);
+        few-steps = omega (arith, trail-length sheet set rs p q, result-is sheet set wf closed some .few, listed .few);
       }
     where
       of : (m : Configuration) → List·Memᴰ m (p ∷ q ∷ []) → OfSheet sheet m
@@ -189,15 +202,10 @@ pub outcome-fits : (l : Limits) → NoGreater l limits → (bytes : List ℕ) (f
 outcome-fits l small bytes first second work answer q e =
     let g = reports-exactly l bytes first second work answer q .0 e in
     let sheet : Sheet = g .sheet in
-    let c = g .chosen in
+    let c = g .read in
     let fine : Admissible sheet = written-admissible bytes sheet (c .written) in
-    subst Fitting (sym (g .report))
+    subst Fitting (sym (g .given))
     (report-fits sheet fine l small (start sheet first) (start sheet second)
     (fine .starts-fit (start sheet first) (getD-in (sheet .starts) first (record { store = 0; threads = [] }) (c .left-there)))
     (fine .starts-fit (start sheet second) (getD-in (sheet .starts) second (record { store = 0; threads = [] }) (c .right-there)))
-    (fits-where sheet (fits sheet l (explored sheet l (startsOf sheet first second))) refl (g .no-limit)))
-  where
-    fits-where : (sheet : Sheet) (b : Bool) → fits sheet l (explored sheet l (startsOf sheet first second)) ≡ b
-        → (PassesLimit sheet l (startsOf sheet first second) → ⊥) → b ≡ true
-    fits-where sheet true e n = refl
-    fits-where sheet false e n = absurd (n (limit-passed sheet l (startsOf sheet first second) e))
+    (fits-unpassed sheet l (startsOf sheet first second) (g .no-limit)))

@@ -4,22 +4,20 @@ use mathlib.Core.Bool.{Bool, cond}
 use mathlib.Core.List.{List, [], _∷_, _++_, map, append-assoc, List·Memᴰ, List·Memᴰ·head, List·Memᴰ·tail}
 use Prim.Native.Nat.{ℕ, zero, suc, _<_}
 use native.Mathlib.Omega.{arith}
-use lib.ListN.{length, getD, take, drop}
+use lib.ListN.{length, getD, take, drop, length-map}
 use lib.Seq.{take-append-seam, drop-append-seam, ext-getD}
-use lib.Dec.{eqb}
 use borrow.Author.Tests.{ne-eqb}
 use Rattle.lists.specs.Lists.{concatMap}
-use Rattle.list_laws.specs.ListPlaces.{getD-any}
+use Rattle.list_laws.specs.ListPlaces.{getD-any, getD-image}
 use Rattle.sheets.specs.Sheet.{Configuration}
 use Rattle.sheets.specs.SheetBytes.{word, wordBytes}
 use Rattle.comparison.specs.CallLimits.{noReply}
 use Rattle.comparison.specs.Classes.{placeOf, classOf}
 use Rattle.comparison_laws.specs.ClassLaws.{placeOf-lt, placeOf-at}
-use Rattle.moves.specs.Orders.{Move}
 use Rattle.comparison.specs.Trail.{Side, left, right, Reply, none, move, TrailStep}
-use Rattle.comparison.specs.Report.{Report, memberBytes, stepBytes, sideByte, replyNumber, reportBytes}
+use Rattle.comparison.specs.Report.{Report, memberBytes, membersBytes, stepBytes, sideByte, replyNumber, reportBytes}
 use Rattle.answers.specs.ReadBack.{memberFirst, classFirst, behindThreads, behindMember, membersRead, classesRead, behindMembers, sideRead, memberWith, replyRead, stepFirst, stepsRead, readBack}
-use Rattle.answer_laws.specs.Fitting.{ReplyFits, StepFits, Fitting}
+use Rattle.answer_laws.specs.Fitting.{ReplyFits, StepFits, MembersFit, Fitting}
 use Rattle.comparison_laws.specs.MemberPlaces.{place-of-member}
 
 -- two bytes in front
@@ -84,15 +82,6 @@ module _ (class : Configuration → ℕ) where
       })
 
 -- ---- classes
-map-length : {A B : Type 0} (f : A → B) (xs : List A) → length (map f xs) ≡ length xs
-map-length f [] = refl
-map-length f (x ∷ xs) = ap suc (map-length f xs)
-
-map-at : {A B : Type 0} (f : A → B) (xs : List A) (i : ℕ) (d : A) (e : B) → i < length xs → getD (map f xs) i e ≡ f (getD xs i d)
-map-at f [] i d e h = absurd (omega arith)
-map-at f (x ∷ xs) zero d e h = refl
-map-at f (x ∷ xs) (suc i) d e h = map-at f xs i d e (omega arith)
-
 abbrev no-member : Configuration
 no-member = record { store = 0; threads = [] }
 
@@ -143,16 +132,35 @@ module _ (set : List Configuration) (few : length set < noReply) where
       ∙ ap₂ (λ (x : TrailStep) (xs : List TrailStep). x ∷ xs) (step-back t l (f t (List·Memᴰ·head refl)))
       (steps-back ts more (λ u i. f u (List·Memᴰ·tail i)))
 
--- ---- the report
+-- ---- members with their classes
 -- the classes of the members of a set in its order are the class numbers
-classes-back : (q : Report) → Fitting q → map (classOf (q .members) (q .classes)) (q .members) ≡ q .classes
-classes-back q fit =
-    let set : List Configuration = q .members in
-    let f : Configuration → ℕ = classOf set (q .classes) in
-    ext-getD 0 (map f set) (q .classes) (map-length f set ∙ sym (fit .numbered)) (λ i h.
-    let l : i < length set = omega (arith, h, map-length f set) in
-    map-at f set i no-member 0 l ∙ ap (λ (k : ℕ). getD (q .classes) k 0) (place-of-member set (fit .ordered) no-member i l))
+classes-back : (set : List Configuration) (numbers : List ℕ) → MembersFit set numbers → map (classOf set numbers) set ≡ numbers
+classes-back set numbers fit =
+    let f : Configuration → ℕ = classOf set numbers in
+    ext-getD 0 (map f set) numbers (length-map set f ∙ sym (fit .numbered)) (λ i h.
+    let l : i < length set = omega (arith, h, length-map set f) in
+    getD-image f set i no-member 0 l ∙ ap (λ (k : ℕ). getD numbers k 0) (place-of-member set (fit .ordered) no-member i l))
 
+-- what is read from bytes that begin with the count of members and the members with their classes
+pub record ListedBack (set : List Configuration) (numbers more s : List ℕ) : Type 0 where
+  pub members : membersRead (word s 0) (drop 2 s) ≡ set
+  pub classes : classesRead (word s 0) (drop 2 s) ≡ numbers
+  pub behind : behindMembers (word s 0) (drop 2 s) ≡ more
+
+pub listed-back : (set : List Configuration) (numbers more : List ℕ) → MembersFit set numbers
+    → ListedBack set numbers more (wordBytes (length set) ++ (membersBytes set numbers ++ more))
+listed-back set numbers more fit =
+    let s : List ℕ = wordBytes (length set) ++ (membersBytes set numbers ++ more) in
+    let count : word s 0 ≡ length set = omega (arith, fit .few) in
+    let back = members-back (classOf set numbers) set more (λ p i.
+    (fit .stores p i, fit .classes (placeOf set p) (placeOf-lt set p i))) in
+    record {
+      members = ap (λ (n : ℕ). membersRead n (drop 2 s)) count ∙ back .members;
+      classes = ap (λ (n : ℕ). classesRead n (drop 2 s)) count ∙ back .classes ∙ classes-back set numbers fit;
+      behind = ap (λ (n : ℕ). behindMembers n (drop 2 s)) count ∙ back .behind;
+    }
+
+-- ---- the report
 regroup : (a b c d : List ℕ) → ((a ++ b) ++ c) ++ d ≡ a ++ (b ++ (c ++ d))
 regroup a b c d = simp append-assoc
 
@@ -175,25 +183,16 @@ pub read-back : (q : Report) (more : List ℕ) → Fitting q
 unfolding readBack with-lists
 read-back q more fit =
     let set : List Configuration = q .members in
-    let n : ℕ = length set in
-    let class : Configuration → ℕ = classOf set (q .classes) in
     let k : ℕ = length (q .steps) in
+    let ms : List ℕ = membersBytes set (q .classes) in
     let tail : List ℕ = wordBytes k ++ (concatMap (stepBytes set) (q .steps) ++ more) in
     let s : List ℕ = reportBytes q ++ more in
-    let count : word s 0 ≡ n = omega (arith, fit .few-members) in
-    let front : drop 2 s ≡ bytes-of class set ++ tail =
-    regroup (bytes-of class set) (wordBytes k) (concatMap (stepBytes set) (q .steps)) more in
-    let back = members-back class set tail (λ p i.
-    (fit .stores p i, class-small p i)) in
-    let members : membersRead (word s 0) (drop 2 s) ≡ set = ap₂ membersRead count front ∙ back .members in
-    let behind : behindMembers (word s 0) (drop 2 s) ≡ tail = ap₂ behindMembers count front ∙ back .behind in
-    let few : length set < noReply = omega (arith, fit .few-members) in
+    let parts : s ≡ wordBytes (length set) ++ (ms ++ tail) =
+    ap (λ (l : List ℕ). wordBytes (length set) ++ l) (regroup ms (wordBytes k) (concatMap (stepBytes set) (q .steps)) more) in
+    let back = subst (ListedBack set (q .classes) tail) (sym parts) (listed-back set (q .classes) tail (fit .listed)) in
+    let few : length set < noReply = omega (arith, fit .listed .few) in
     let steps-count : word tail 0 ≡ k = omega (arith, fit .few-steps) in
-    same-report q members
-    (ap₂ classesRead count front ∙ back .classes ∙ classes-back q fit)
-    (ap₂ (λ (ms : List Configuration) (rest : List ℕ). stepsRead ms (word rest 0) (drop 2 rest)) members behind
+    same-report q (back .members) (back .classes)
+    (ap₂ (λ (ms : List Configuration) (rest : List ℕ). stepsRead ms (word rest 0) (drop 2 rest)) (back .members) (back .behind)
     ∙ ap (λ (j : ℕ). stepsRead set j (drop 2 tail)) steps-count
     ∙ steps-back set few (q .steps) more (fit .steps))
-  where
-    class-small : (p : Configuration) → List·Memᴰ p (q .members) → classOf (q .members) (q .classes) p < 65536
-    class-small p i = fit .classes (placeOf (q .members) p) (placeOf-lt (q .members) p i)

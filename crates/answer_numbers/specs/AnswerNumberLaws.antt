@@ -3,11 +3,12 @@ use mathlib.Core.Path.{_≡_, refl, sym, ap, _∙_}
 use mathlib.Core.List.{List, [], _∷_}
 use Prim.Native.Nat.{ℕ, _≤_}
 use native.Mathlib.Omega.{arith}
+use Rattle.sheets.specs.Sheet.{Configuration, Sheet}
 use Rattle.comparison.specs.CallLimits.{Limits}
 use Rattle.comparison.specs.Report.{Verdict, SAME, DIFF, reportLength, Compares}
 use Rattle.comparison.specs.Outcome.{reported, refusal}
 use Rattle.comparison.specs.Call.{compare, compareWith}
-use Rattle.comparison.specs.Promise.{Refuses, by-sheet, short-work, large-set, short-answer}
+use Rattle.comparison.specs.Promise.{RefusesBy, by-sheet, short-work, large-set, short-answer}
 use Rattle.comparison_laws.specs.CallTheorem.{refuses-exactly}
 use Rattle.answers.specs.declared.Reported.{Reported}
 use Rattle.answers.specs.declared.Answer.{Answer}
@@ -52,14 +53,17 @@ call-handed {o} c n ns =
       works = c .works;
     }
 
-above : (l : Limits) (bytes : List ℕ) (left right work answer number place : ℕ) → Refuses l bytes left right work answer number place → 1 ≤ number
-above l bytes left right work answer number place (by-sheet e) = number-low bytes left right number place (choice-reads bytes left right .is-refused number place e) .above
-above l bytes left right work answer _ _ (short-work sheet r h) = omega arith
-above l bytes left right work answer _ _ (large-set sheet r h p) = omega arith
-above l bytes left right work answer _ _ (short-answer sheet r h p k) = omega arith
+-- a number of the frame's is at least 1, where those of reading are
+pub refuses-above : {Is : Sheet → Type 0} {Not : ℕ → ℕ → Type 0} {l : Limits} {seeds : Sheet → List Configuration} {needed : Sheet → ℕ} {work answer number place : ℕ}
+    → ((n p : ℕ) → Not n p → 1 ≤ n) → RefusesBy Is Not l seeds needed work answer number place → 1 ≤ number
+refuses-above {number = number} {place} f (by-sheet e) = f number place e
+refuses-above f (short-work sheet r h) = omega arith
+refuses-above f (large-set sheet r h p) = omega arith
+refuses-above f (short-answer sheet r h p k) = omega arith
 
 -- so 0 is returned for a report alone
 pub refusal-above : (l : Limits) (bytes : List ℕ) (left right work answer number place : ℕ)
     → compareWith l bytes left right work answer ≡ refusal number place → 1 ≤ number
 refusal-above l bytes left right work answer number place e =
-    above l bytes left right work answer number place (refuses-exactly l bytes left right work answer number place .0 e)
+    refuses-above (λ n p x. number-low bytes left right n p (choice-reads bytes left right .is-refused n p x) .above)
+    (refuses-exactly l bytes left right work answer number place .0 e)

@@ -1,18 +1,25 @@
--- What a caller in C gets of the call's outcome: a number that is returned, and six more.
+-- What a caller in C gets of a call's outcome: a number that is returned, and the numbers of the result; for the comparing call six.
 use mathlib.Core.Path.{_≡_}
 use mathlib.Core.Bool.{Bool, true, false}
 use mathlib.Core.List.{List, [], _∷_}
 use Prim.Native.Nat.{ℕ}
-use Rattle.comparison.specs.Report.{Verdict, SAME, DIFF, reportLength, Compares}
-use Rattle.comparison.specs.Outcome.{reported, refusal, workAfter}
-use Rattle.comparison.specs.Call.{answerAfter}
+use Rattle.comparison.specs.Report.{Verdict, SAME, DIFF, reportBytes, reportLength, Compares}
+use Rattle.comparison.specs.Outcome.{Outcome, reported, refusal, writtenAfter, workAfter}
 use Rattle.answers.specs.declared.Answer.{Answer}
 use Rattle.answers.specs.declared.Answer.the-variants.{Report, Refused}
 
--- 0 for a report, else the refusal's number, which is never 0 (`refusal-above`)
-abbrev pub outcomeNumber : Compares → ℕ
-outcomeNumber (reported r) = 0
+-- 0 for what a call gives, else the refusal's number, which is never 0 (`refusal-above`)
+abbrev pub outcomeNumber : {A : Type 0} → Outcome A → ℕ
+outcomeNumber (reported a) = 0
 outcomeNumber (refusal number place) = number
+
+-- A call had this outcome: the number that was returned, the result's numbers, and both slices, of which v became w and `before` became
+-- `after`.
+pub record HandedBy {A : Type 0} (written : A → List ℕ) (numbered : Outcome A → List ℕ) (o : Outcome A) (v before w after numbers : List ℕ) (number : ℕ) : Type 0 where
+  pub returns : number ≡ outcomeNumber o
+  pub result : numbers ≡ numbered o
+  pub bytes : after ≡ writtenAfter written o before
+  pub works : w ≡ workAfter o v
 
 abbrev pub verdictNumber : Verdict → ℕ
 verdictNumber SAME = 0
@@ -24,13 +31,9 @@ outcomeNumbers (reported r) =
     verdictNumber (r .verdict) ∷ r .round ∷ r .leftPlace ∷ r .rightPlace ∷ reportLength r ∷ 0 ∷ []
 outcomeNumbers (refusal number place) = 0 ∷ 0 ∷ 0 ∷ 0 ∷ 0 ∷ place ∷ []
 
--- The call had this outcome: the number that was returned, the six numbers, and both slices, of which v became w and `before`
--- became `after`.
-pub record Handed (o : Compares) (v before w after numbers : List ℕ) (number : ℕ) : Type 0 where
-  pub returns : number ≡ outcomeNumber o
-  pub result : numbers ≡ outcomeNumbers o
-  pub bytes : after ≡ answerAfter o before
-  pub works : w ≡ workAfter o v
+-- the comparing call had this outcome
+abbrev pub Handed : Compares → List ℕ → List ℕ → List ℕ → List ℕ → List ℕ → ℕ → Type 0
+Handed = HandedBy reportBytes outcomeNumbers
 
 -- ---- the same of the library's own answer
 abbrev pub sameNumber : Bool → ℕ

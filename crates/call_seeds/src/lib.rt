@@ -12,22 +12,15 @@ ghost use Rattle.comparison.specs.CallLimits.{limits, deskLimits};
 ghost use Rattle.seed_members.specs.Seeds.{CapsFit};
 ghost use Rattle.found_set.specs.FoundSet.{limitsOf};
 ghost use Rattle.sheets.specs.SheetLimits.{maxStarts};
+ghost use Rattle.call_seeds.specs.Choice.{seedsHeld, seedCount};
 
 // How many members and moves the desk's call allows (document 02, card 3).
 const DESK_MEMBERS: usize = 64;
 
 const DESK_MOVES: usize = 512;
 
-// The start with this number.
-pub fn start_at(starts: [Configuration; 16], k: usize) -> Configuration
-    requires { ⌜ k < maxStarts ⌝ }
-    ensures { λ r. ⌜ r ≡ getD starts k noConfiguration ⌝ }
-{
-    starts[k]
-}
-
 // The chosen starts as the first two seeds; the other starts stay.
-pub fn chosen_seeds(starts: [Configuration; 16], left: usize, right: usize) -> [Configuration; 16]
+fn chosen_seeds(starts: [Configuration; 16], left: usize, right: usize) -> [Configuration; 16]
     requires { ⌜ (left < maxStarts) × (right < maxStarts) ⌝ }
     ensures { λ r. ⌜ r ≡ set (set starts 0 (getD starts left noConfiguration)) 1 (getD starts right noConfiguration) ⌝ }
 {
@@ -37,6 +30,29 @@ pub fn chosen_seeds(starts: [Configuration; 16], left: usize, right: usize) -> [
     seeds[0] = p;
     seeds[1] = q;
     seeds
+}
+
+// The seeds of a call: all starts, or the chosen ones in the first two places.
+pub fn seeds_of(
+    starts: [Configuration; 16],
+    left: usize,
+    right: usize,
+    all: bool,
+) -> [Configuration; 16]
+    requires { ⌜ (left < maxStarts) × (right < maxStarts) ⌝ }
+    ensures { λ r. ⌜ r ≡ seedsHeld starts left right all ⌝ }
+{
+    if all {
+        return starts;
+    }
+    chosen_seeds(starts, left, right)
+}
+
+// How many there are.
+pub fn seed_count(count: u16, all: bool) -> usize
+    ensures { λ r. ⌜ r ≡ seedCount count all ⌝ }
+{
+    if all { count as usize } else { 2 }
 }
 
 // Document 01's limits.

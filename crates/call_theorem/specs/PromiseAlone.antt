@@ -4,7 +4,8 @@ use Prim.Native.Nat.{ℕ}
 use lib.ListN.{length}
 use Rattle.comparison.specs.CallLimits.{Limits}
 use Rattle.comparison.specs.Report.{Compares}
-use Rattle.comparison_laws.specs.CallTheorem.{Gives, gives-report, gives-refusal, call-gives}
+use Rattle.comparison_laws.specs.FrameTheorem.{gives-report, gives-refusal}
+use Rattle.comparison_laws.specs.CallTheorem.{Gives, call-gives}
 use Rattle.answers.specs.declared.Answer.{Answer}
 use Rattle.call_promise.specs.CallPromise.{CallPromise}
 use Rattle.call_promise.specs.TwoCalls.{OneCall}

@@ -1,5 +1,5 @@
-// Lines of a list of cases: the call that is meant, a name, a left and a right start number in decimal, and a sheet as hex
-// digits, parted by one space each. A line that is empty or begins with # is passed over.
+// Lines of a list of cases: the call that is meant, a name, two numbers in decimal, and a sheet as hex digits, parted by one space
+// each. A line that is empty or begins with # is passed over.
 ghost use mathlib.Core.Path.{_≡_};
 ghost use mathlib.Core.Bool.{true};
 ghost use mathlib.Core.List.{_++_};
@@ -30,11 +30,12 @@ pub enum Parsed {
     Not,
 }
 
-// What is asked of a sheet: to read it, the set of its two starts, or to compare them.
+// What is asked of a sheet: to read it, the set of two starts, to compare them, or to compare all starts.
 pub enum Call {
     Read,
     Set,
     Compare,
+    All,
 }
 
 // The call that a word names.
@@ -43,7 +44,7 @@ enum Called {
     Unknown,
 }
 
-// A case: its call, where its name begins and ends, its two start numbers, and the place of its sheet's digits.
+// A case: its call, where its name begins and ends, its two numbers, and the place of its sheet's digits.
 pub struct Case {
     pub call: Call,
     pub name: usize,
@@ -244,6 +245,9 @@ fn call_of(word: &[u8]) -> Called
     }
     if is_word(word, b"compare") {
         return Called::Names(Call::Compare);
+    }
+    if is_word(word, b"all") {
+        return Called::Names(Call::All);
     }
     Called::Unknown
 }

@@ -1,8 +1,11 @@
 // Runs a list of cases from standard input. A case names its call: to read the sheet, to work out the set that grows from the two
-// chosen starts, or to compare them. The case's name is written with what the call gives; after a comparison a line says what
-// the desk's call gives of the same input, the same or its refusal; and after a report a line says whether a second checker, which
-// works out document 01's levels over every configuration that the starts reach, finds the same verdict, round and classes. All
-// cases share one work slice, which is not cleared between them.
+// chosen starts, to compare them, or to compare all starts, with an answer slice and a work slice of the lengths that the case gives.
+// The case's name is written with what the call gives; after a comparison a line says what the desk's call gives of the same input, the
+// same or its refusal; after a report a line says whether a second checker, which works out document 01's levels over every configuration
+// that the starts reach, finds the same verdict, round and classes; and after a grouping of all starts, or its refusal 21, a line says what
+// the comparing call finds of every two starts. All cases share one work slice, which is not cleared between them.
+use all_starts::AllAnswer;
+use all_starts::Grouped;
 use answers::Answer;
 use answers::Reported;
 use call_frame::Begun;
@@ -14,6 +17,7 @@ use level_check::Checked;
 use level_check::Claim;
 use libc::STDIN_FILENO;
 use libc::STDOUT_FILENO;
+use report_fields::byte_in;
 use sheet_types::Configuration;
 use sheet_types::Section;
 use sheet_types::Sheet;
@@ -168,12 +172,180 @@ fn write_comparison(sheet: &[u8], left: usize, right: usize, work: &mut [u32]) {
     }
 }
 
-// Writes what a call gives for two starts of a sheet.
+// Writes a space and a number.
+fn write_number(n: usize) {
+    let mut out = [0u8; 32];
+    let k = text::put_field(&mut out, 0, n as u64);
+    io::write_all(STDOUT_FILENO, &out[..k]);
+}
+
+// Writes a part of a slice, where it has one from the first place to the second.
+fn write_part(s: &[u8], from: usize, to: usize) {
+    if from <= to && to <= s.len() {
+        io::write_all(STDOUT_FILENO, &s[from..to]);
+    }
+}
+
+// Writes the lines of the members at the front of an answer: what the text of a report has between its first line, of 7 bytes, and its
+// last, of 8.
+fn write_members(answer: &[u8]) {
+    let mut out = [0u8; 65536];
+    let n = report_text::report_text(true, 0, answer, &mut out);
+    if 8 <= n {
+        write_part(&out, 7, n - 8);
+    }
+}
+
+// The class of start i, in the bytes that follow the last member.
+fn class_in(classes: &[u8], i: usize) -> usize {
+    if i < 16 {
+        byte_in(classes, 2 * i) + 256 * byte_in(classes, 2 * i + 1)
+    } else {
+        0
+    }
+}
+
+// Writes the classes of k starts.
+fn write_classes(classes: &[u8], k: usize) {
+    io::write_all(STDOUT_FILENO, b"STARTS");
+    let mut i: usize = 0;
+    while i < k {
+        write_number(class_in(classes, i));
+        i += 1;
+    }
+    io::write_all(STDOUT_FILENO, b"\n");
+}
+
+// What the comparing call finds of two starts.
+enum Pair {
+    Same,
+    Diff,
+    Refused,
+}
+
+fn pair_of(sheet: &[u8], left: usize, right: usize, work: &mut [u32]) -> Pair {
+    let mut answer = [0u8; 10237];
+    let r = compare_call::compare(sheet, left, right, &mut answer, work);
+    match r {
+        Answer::Report(x) => { if x.same { Pair::Same } else { Pair::Diff } }
+        Answer::Refused(_, _) => Pair::Refused,
+    }
+}
+
+// Two starts beside their classes: whether they share one exactly where the comparing call finds them the same. Where there are no
+// classes, whether it reports on them.
+fn pair_agrees(sheet: &[u8], i: usize, j: usize, classes: &[u8], work: &mut [u32]) -> bool {
+    let one = class_in(classes, i) == class_in(classes, j);
+    let none = classes.len() == 0;
+    let pair = pair_of(sheet, i, j, work);
+    match pair {
+        Pair::Same => none || one,
+        Pair::Diff => none || !one,
+        Pair::Refused => false,
+    }
+}
+
+// The same of start i and each from it on, of k starts.
+fn later_agree(sheet: &[u8], i: usize, k: usize, classes: &[u8], work: &mut [u32]) -> bool {
+    let mut j = i;
+    while j < k {
+        if !pair_agrees(sheet, i, j, classes, work) {
+            return false;
+        }
+        j += 1;
+    }
+    true
+}
+
+// The same of every two of k starts.
+fn pairs_agree(sheet: &[u8], k: usize, classes: &[u8], work: &mut [u32]) -> bool {
+    let mut i: usize = 0;
+    while i < k {
+        if !later_agree(sheet, i, k, classes, work) {
+            return false;
+        }
+        i += 1;
+    }
+    true
+}
+
+// Writes the members and the classes of k starts of an answer of this length, and whether every two starts agree with them.
+fn write_answer(sheet: &[u8], k: usize, length: usize, answer: &[u8], work: &mut [u32]) {
+    if 16 < k {
+        return;
+    }
+    if length < 2 * k {
+        return;
+    }
+    if answer.len() < length {
+        return;
+    }
+    let end = length - 2 * k;
+    write_members(&answer[..end]);
+    write_classes(&answer[end..length], k);
+    if pairs_agree(sheet, k, &answer[end..length], work) {
+        io::write_all(STDOUT_FILENO, b"PAIRS AGREE\n");
+    } else {
+        io::write_all(STDOUT_FILENO, b"PAIRS DIFFER\n");
+    }
+}
+
+// Writes the round and the length of a grouping, and its answer.
+fn write_grouping(sheet: &[u8], k: usize, x: Grouped, answer: &[u8], work: &mut [u32]) {
+    let mut out = [0u8; 128];
+    let n = text::two_number_line(&mut out, b"CLASSES", x.round as u64, x.length as u64);
+    io::write_all(STDOUT_FILENO, &out[..n]);
+    write_answer(sheet, k, x.length, answer, work);
+}
+
+// Writes a refusal, and after 21 whether the comparing call reports on every two of k starts.
+fn write_refusal(sheet: &[u8], k: usize, number: u8, place: usize, work: &mut [u32]) {
+    let mut out = [0u8; 128];
+    let n = text::refused_line(&mut out, number, place);
+    io::write_all(STDOUT_FILENO, &out[..n]);
+    if number == 21 {
+        if pairs_agree(sheet, k, &out[..0], work) {
+            io::write_all(STDOUT_FILENO, b"PAIRS REPORTED\n");
+        } else {
+            io::write_all(STDOUT_FILENO, b"PAIRS REFUSED\n");
+        }
+    }
+}
+
+// The call for all starts, with slices no longer than these lengths.
+fn group(
+    sheet: &[u8],
+    room: usize,
+    numbers: usize,
+    answer: &mut [u8],
+    work: &mut [u32],
+) -> AllAnswer {
+    let a = small_numbers::lesser(room, answer.len());
+    let w = small_numbers::lesser(numbers, work.len());
+    all_call::compare_all(sheet, &mut answer[..a], &mut work[..w])
+}
+
+// Writes what the call for all starts gives.
+fn write_all_starts(sheet: &[u8], room: usize, numbers: usize, work: &mut [u32]) {
+    let mut answer = [0u8; 6690];
+    let read = sheet_reader::read_sheet(sheet);
+    let held = read.sheet;
+    let k = held.start_count as usize;
+    io::write_all(STDOUT_FILENO, b"\n");
+    let r = group(sheet, room, numbers, &mut answer, work);
+    match r {
+        AllAnswer::Classes(x) => write_grouping(sheet, k, x, &answer, work),
+        AllAnswer::Refused(number, place) => write_refusal(sheet, k, number, place, work),
+    }
+}
+
+// Writes what a call gives for a sheet and two numbers: two of its starts, or the lengths of the slices.
 fn write_call(call: Call, sheet: &[u8], left: usize, right: usize, work: &mut [u32]) {
     match call {
         Call::Read => write_reading(sheet, left, right),
         Call::Set => write_set(sheet, left, right, work),
         Call::Compare => write_comparison(sheet, left, right, work),
+        Call::All => write_all_starts(sheet, left, right, work),
     }
 }
 

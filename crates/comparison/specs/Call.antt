@@ -1,20 +1,17 @@
 -- The comparing call, from sheet bytes, two start numbers and the lengths of both slices to the report or the refusal, in
 -- document 01's order: the sheet's refusals, 14, then 23, 21, 22.
-use mathlib.Core.Bool.{cond}
 use mathlib.Core.List.{List, [], _∷_}
 use Prim.Native.Nat.{ℕ}
-use lib.Dec.{ltb}
-use Rattle.sheets.specs.Refusals.{shortAnswer}
 use Rattle.sheets.specs.Sheet.{Configuration, Sheet, start}
 use Rattle.sheet_reading.specs.Reading.{Reading, readChoice}
 use Rattle.comparison.specs.CallLimits.{Limits, limits, deskLimits}
-use Rattle.comparison.specs.Report.{Report, Compares, reportOn, reportBytes, reportLength}
-use Rattle.comparison.specs.Outcome.{Outcome, reported, refusal, writtenAfter}
-use Rattle.comparison.specs.Frame.{withSet, withWork, withSheet}
+use Rattle.comparison.specs.Report.{Report, Compares, reportOn, reportBytes}
+use Rattle.comparison.specs.Outcome.{writtenAfter}
+use Rattle.comparison.specs.Frame.{withRoom, withSet, withWork, withSheet}
 
--- 22: the answer slice is shorter than the report; the place is the length needed
+-- 22: the answer slice is shorter than the report
 abbrev pub inRoom : ℕ → Report → Compares
-inRoom answer r = cond (ltb answer (reportLength r)) (refusal shortAnswer (reportLength r)) (reported r)
+inRoom = withRoom reportBytes
 
 -- the report on two configurations of a sheet
 abbrev pub compareStarts : Limits → Sheet → Configuration → Configuration → ℕ → Compares

@@ -1,15 +1,20 @@
--- What every call has that works out a set: from reading to the set. A call adds what it does with the set, and its answer. Document
--- 01's order of refusals: those of the sheet and the choice, 23, 21, then the call's own.
-use mathlib.Core.Bool.{true, false}
+-- What every call has that works out a set: from reading to the set, and the room for what it writes. A call adds what it makes of the
+-- set, and its bytes. Document 01's order of refusals: those of the sheet and the choice, 23, 21, 22.
+use mathlib.Core.Bool.{true, false, cond}
 use mathlib.Core.List.{List}
 use Prim.Native.Nat.{ℕ}
+use lib.ListN.{length}
 use lib.Dec.{ltb}
-use Rattle.sheets.specs.Refusals.{largeSet, shortWork}
+use Rattle.sheets.specs.Refusals.{largeSet, shortAnswer, shortWork}
 use Rattle.sheets.specs.Sheet.{Configuration, Sheet}
 use Rattle.sheet_reading.specs.Reading.{Reading, got, refused}
 use Rattle.comparison.specs.CallLimits.{Limits, workLength}
-use Rattle.comparison.specs.Outcome.{Outcome, refusal}
+use Rattle.comparison.specs.Outcome.{Outcome, reported, refusal}
 use Rattle.comparison.specs.Set.{explored, fits}
+
+-- 22: the answer slice is shorter than the bytes that are to be written; the place is the length needed
+abbrev pub withRoom : {A : Type 0} → (A → List ℕ) → ℕ → A → Outcome A
+withRoom bytes answer a = let needed = length (bytes a) in cond (ltb answer needed) (refusal shortAnswer needed) (reported a)
 
 -- 21: the set that grows from the seeds passes a limit; otherwise the call goes on with it
 abbrev pub withSet : {A : Type 0} → Limits → Sheet → List Configuration → (List Configuration → Outcome A) → Outcome A

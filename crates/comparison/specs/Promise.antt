@@ -82,14 +82,22 @@ pub data Walkable (sheet : Sheet) : ℕ → Configuration → Configuration → 
       → Telling sheet r q p a t → Replied sheet p a t k n → n ≤ r → Walkable sheet n (k .target) t steps
       → Walkable sheet (suc r) p q (record { side = trail.right; label = a; target = t; reply = trail.move k } ∷ steps)
 
+-- What the members and the classes of an answer say of the set that grows from the seeds.
+pub record Classified (sheet : Sheet) (seeds members : List Configuration) (numbers : List ℕ) : Type 1 where
+  -- the set is listed whole, each member once and in its order
+  pub ordered : Ascends configurationBefore members
+  pub whole : (x : Configuration) → List·Memᴰ x members ↔ Member (transitions sheet) seeds x
+  -- two members share a class exactly when a saturated barbed bisimulation contains the two as a pair
+  pub classes : (x y : Configuration) → List·Memᴰ x members → List·Memᴰ y members
+      → (share members numbers x y ≡ true) ↔ Bisimilar (transitions sheet) x y
+  -- each member has a class, and classes are numbered from 0 by first member
+  pub classed : length numbers ≡ length members
+  pub numbering : NumberedByFirst numbers
+
 -- What a report on two starts p and q says. Demand 3, sentence by sentence.
 pub record Faithful (sheet : Sheet) (p q : Configuration) (r : Report) : Type 1 where
-  -- the report lists the set whole, each member once and in its order
-  pub ordered : Ascends configurationBefore (r .members)
-  pub whole : (x : Configuration) → List·Memᴰ x (r .members) ↔ Member (transitions sheet) (p ∷ q ∷ []) x
-  -- two members share a class there exactly when a saturated barbed bisimulation contains the two as a pair
-  pub classes : (x y : Configuration) → List·Memᴰ x (r .members) → List·Memᴰ y (r .members)
-      → (share (r .members) (r .classes) x y ≡ true) ↔ Bisimilar (transitions sheet) x y
+  -- the report lists the set, with the classes of bisimilarity
+  pub listed : Classified sheet (p ∷ q ∷ []) (r .members) (r .classes)
   -- DIFF exactly when no saturated barbed bisimulation contains the two configurations
   pub diff : (r .verdict ≡ DIFF) ↔ (Bisimilar (transitions sheet) p q → ⊥)
   -- the round of a DIFF is the least number of moves in which a watcher can tell them apart
@@ -98,9 +106,6 @@ pub record Faithful (sheet : Sheet) (p q : Configuration) (r : Report) : Type 1 
   pub same : (r .verdict ≡ SAME) ↔ ((n : ℕ) → TellsApart (transitions sheet) n p q → ⊥)
   -- SAME carries the number of the result's round
   pub same-round : r .verdict ≡ SAME → ResultRound sheet (p ∷ q ∷ []) (r .round)
-  -- each member has a class, and classes are numbered from 0 by first member
-  pub classed : length (r .classes) ≡ length (r .members)
-  pub numbering : NumberedByFirst (r .classes)
   -- the trail of a DIFF can be walked with the sheet in hand; that of a SAME is empty
   pub trail-walks : r .verdict ≡ DIFF → Walkable sheet (r .round) p q (r .steps)
   pub trail-none : r .verdict ≡ SAME → r .steps ≡ []
@@ -123,7 +128,33 @@ pub data PassesLimit (sheet : Sheet) (l : Limits) (seeds : List Configuration) :
   -- the members have more than so many moves together
   many-moves : MoreThan (l .moves) (λ (x : MemberMove). Member (transitions sheet) seeds (x .member) × List·Memᴰ (x .move) (moves sheet (x .member))) → PassesLimit sheet l seeds
 
--- ---- the call
+-- ---- a call that works out a set and writes an answer: `Is` says by which sheet it goes, `Not` what refuses its bytes or its choice; the
+-- set grows from `seeds`
+-- When it refuses, and how; the answer has `needed` bytes.
+pub data RefusesBy (Is : Sheet → Type 0) (Not : ℕ → ℕ → Type 0) (l : Limits) (seeds : Sheet → List Configuration) (needed : Sheet → ℕ) (work answer : ℕ)
+    : ℕ → ℕ → Type 0 where
+  -- by the sheet or the choice, handed up unaltered
+  by-sheet : {number place : ℕ} → Not number place → RefusesBy Is Not l seeds needed work answer number place
+  -- 23: the work slice is too short
+  short-work : (sheet : Sheet) → Is sheet → work < workLength → RefusesBy Is Not l seeds needed work answer shortWork 0
+  -- 21: the set itself passes a limit
+  large-set : (sheet : Sheet) → Is sheet → workLength ≤ work → PassesLimit sheet l (seeds sheet)
+      → RefusesBy Is Not l seeds needed work answer largeSet 0
+  -- 22: the answer slice is too short, at the length needed
+  short-answer : (sheet : Sheet) → Is sheet → workLength ≤ work → (PassesLimit sheet l (seeds sheet) → ⊥) → answer < needed sheet
+      → RefusesBy Is Not l seeds needed work answer shortAnswer (needed sheet)
+
+-- When it gives an answer, and which: what `made` is of the sheet, with as many bytes as `size` says.
+pub record GivesBy {A : Type 0} (Is : Sheet → Type 0) (l : Limits) (seeds : Sheet → List Configuration) (made : Sheet → A) (size : A → ℕ) (work answer : ℕ)
+    (a : A) : Type 0 where
+  pub sheet : Sheet
+  pub read : Is sheet
+  pub work-room : workLength ≤ work
+  pub no-limit : PassesLimit sheet l (seeds sheet) → ⊥
+  pub answer-room : size a ≤ answer
+  pub given : a ≡ made sheet
+
+-- ---- the comparing call
 -- the report on two starts of a sheet, with the set that grows from them
 abbrev pub reportFor : Limits → Sheet → ℕ → ℕ → Report
 reportFor l sheet left right =
@@ -133,25 +164,13 @@ reportFor l sheet left right =
 abbrev pub startsOf : Sheet → ℕ → ℕ → List Configuration
 startsOf sheet left right = start sheet left ∷ start sheet right ∷ []
 
--- When the call refuses, and how.
-pub data Refuses (l : Limits) (bytes : List ℕ) (left right work answer : ℕ) : ℕ → ℕ → Type 0 where
-  -- by the sheet or the choice, handed up unaltered
-  by-sheet : {number place : ℕ} → ChoiceRefused bytes left right number place → Refuses l bytes left right work answer number place
-  -- 23: the work slice is too short
-  short-work : (sheet : Sheet) → ChoiceIs bytes left right sheet → work < workLength → Refuses l bytes left right work answer shortWork 0
-  -- 21: the set itself passes a limit
-  large-set : (sheet : Sheet) → ChoiceIs bytes left right sheet → workLength ≤ work → PassesLimit sheet l (startsOf sheet left right)
-      → Refuses l bytes left right work answer largeSet 0
-  -- 22: the answer slice is shorter than the report, at the length needed
-  short-answer : (sheet : Sheet) → ChoiceIs bytes left right sheet → workLength ≤ work → (PassesLimit sheet l (startsOf sheet left right) → ⊥)
-      → answer < reportLength (reportFor l sheet left right)
-      → Refuses l bytes left right work answer shortAnswer (reportLength (reportFor l sheet left right))
+-- When the call refuses, and how: 22 where the answer slice is shorter than the report.
+abbrev pub Refuses : Limits → List ℕ → ℕ → ℕ → ℕ → ℕ → ℕ → ℕ → Type 0
+Refuses l bytes left right work answer =
+    RefusesBy (ChoiceIs bytes left right) (ChoiceRefused bytes left right) l (λ sheet. startsOf sheet left right)
+    (λ sheet. reportLength (reportFor l sheet left right)) work answer
 
 -- When the call reports, and what.
-pub record Reports (l : Limits) (bytes : List ℕ) (left right work answer : ℕ) (r : Report) : Type 0 where
-  pub sheet : Sheet
-  pub chosen : ChoiceIs bytes left right sheet
-  pub work-room : workLength ≤ work
-  pub no-limit : PassesLimit sheet l (startsOf sheet left right) → ⊥
-  pub answer-room : reportLength r ≤ answer
-  pub report : r ≡ reportFor l sheet left right
+abbrev pub Reports : Limits → List ℕ → ℕ → ℕ → ℕ → ℕ → Report → Type 0
+Reports l bytes left right work answer =
+    GivesBy (ChoiceIs bytes left right) l (λ sheet. startsOf sheet left right) (λ sheet. reportFor l sheet left right) reportLength work answer

@@ -61,21 +61,21 @@ module _ (sheet : Sheet) (p q : Configuration) where
     share-at : (i j : ℕ) → i < length (r .members) → j < length (r .members) → getD (r .classes) i 0 ≡ getD (r .classes) j 0
         → Bisimilar (transitions sheet) (memberAt i) (memberAt j)
     share-at i j l k e =
-        a .classes (memberAt i) (memberAt j) (getD-in (r .members) i p l) (getD-in (r .members) j p k) .0
-        (rw (place-of-member (r .members) (a .ordered) p i l, place-of-member (r .members) (a .ordered) p j k) (eq-eqb _ _ e))
+        a .listed .classes (memberAt i) (memberAt j) (getD-in (r .members) i p l) (getD-in (r .members) j p k) .0
+        (rw (place-of-member (r .members) (a .listed .ordered) p i l, place-of-member (r .members) (a .listed .ordered) p j k) (eq-eqb _ _ e))
 
     at-share : (i j : ℕ) → i < length (r .members) → j < length (r .members) → Bisimilar (transitions sheet) (memberAt i) (memberAt j)
         → getD (r .classes) i 0 ≡ getD (r .classes) j 0
     at-share i j l k h =
-        let t = a .classes (memberAt i) (memberAt j) (getD-in (r .members) i p l) (getD-in (r .members) j p k) .1 h in
-        let u = rw (place-of-member (r .members) (a .ordered) p i l, place-of-member (r .members) (a .ordered) p j k) at t in
+        let t = a .listed .classes (memberAt i) (memberAt j) (getD-in (r .members) i p l) (getD-in (r .members) j p k) .1 h in
+        let u = rw (place-of-member (r .members) (a .listed .ordered) p i l, place-of-member (r .members) (a .listed .ordered) p j k) at t in
         eqb-true (getD (r .classes) i 0) (getD (r .classes) j 0) u
 
   module _ (r s : Report) (a : Faithful sheet p q r) (b : Faithful sheet p q s) where
     members-one : r .members ≡ s .members
     members-one =
-        ascends-unique configurationOrder (r .members) (s .members) (a .ordered) (b .ordered)
-        (λ x m. b .whole x .1 (a .whole x .0 m)) (λ x m. a .whole x .1 (b .whole x .0 m))
+        ascends-unique configurationOrder (r .members) (s .members) (a .listed .ordered) (b .listed .ordered)
+        (λ x m. b .listed .whole x .1 (a .listed .whole x .0 m)) (λ x m. a .listed .whole x .1 (b .listed .whole x .0 m))
 
     many-one : length (r .members) ≡ length (s .members)
     many-one = ap length members-one
@@ -108,23 +108,23 @@ module _ (sheet : Sheet) (p q : Configuration) where
 
     classes-one : r .classes ≡ s .classes
     classes-one =
-        numbers-one (r .classes) (s .classes) (a .numbering) (b .numbering) (a .classed ∙ many-one ∙ sym (b .classed))
+        numbers-one (r .classes) (s .classes) (a .listed .numbering) (b .listed .numbering) (a .listed .classed ∙ many-one ∙ sym (b .listed .classed))
         (λ i j l k e. at-share s b i j (inside i l) (inside j k) (rw (same-member i, same-member j) (share-at r a i j (own i l) (own j k) e)))
         (λ i j l k e. at-share r a i j (own i l) (own j k) (rw (sym (same-member i), sym (same-member j)) (share-at s b i j (inside i l) (inside j k) e)))
       where
         own : (i : ℕ) → i < length (r .classes) → i < length (r .members)
-        own i l = omega (arith, l, a .classed)
+        own i l = omega (arith, l, a .listed .classed)
 
         inside : (i : ℕ) → i < length (r .classes) → i < length (s .members)
-        inside i l = omega (arith, l, a .classed, many-one)
+        inside i l = omega (arith, l, a .listed .classed, many-one)
 
     -- a start stands at one place
     place-one : (x : Configuration) (i j : ℕ) → i < length (r .members) → getD (r .members) i x ≡ x → j < length (s .members) → getD (s .members) j x ≡ x → i ≡ j
     place-one x i j l e k f =
         let here : getD (r .members) j x ≡ x = ap (λ (m : List Configuration). getD m j x) members-one ∙ f in
         neither-below i j
-        (λ h. places-apart (r .members) (a .ordered) x i j h (omega (arith, k, many-one)) (e ∙ sym here))
-        (λ h. places-apart (r .members) (a .ordered) x j i h l (here ∙ sym e))
+        (λ h. places-apart (r .members) (a .listed .ordered) x i j h (omega (arith, k, many-one)) (e ∙ sym here))
+        (λ h. places-apart (r .members) (a .listed .ordered) x j i h l (here ∙ sym e))
 
     left-one : r .leftPlace ≡ s .leftPlace
     left-one = place-one p (r .leftPlace) (s .leftPlace) (a .left-place .0) (a .left-place .1) (b .left-place .0) (b .left-place .1)

@@ -16,7 +16,8 @@ use Rattle.comparison.specs.CallLimits.{Limits, NoGreater, limits, deskLimits, 
 use Rattle.comparison.specs.Set.{over, explored}
 use Rattle.comparison.specs.Report.{Report, reportOn, reportLength, Compares}
 use Rattle.comparison.specs.Promise.{PassesLimit, many-members, many-threads, many-moves, reportFor, startsOf, Refuses, by-sheet, short-work, large-set, short-answer, Reports}
-use Rattle.comparison_laws.specs.CallTheorem.{Gives, gives-report, gives-refusal, call-gives}
+use Rattle.comparison_laws.specs.FrameTheorem.{gives-report, gives-refusal}
+use Rattle.comparison_laws.specs.CallTheorem.{Gives, call-gives}
 use Rattle.comparison_laws.specs.SetLaws.{explored-member, explored-complete, explored-ascends, fits-not-over, fits-unpassed}
 
 -- limits are nowhere above themselves
@@ -74,11 +75,11 @@ module _ (l h : Limits) (bytes : List ℕ) (left right : ℕ) where
   pub reports-same : {work answer work2 answer2 : ℕ} {r s : Report} → Reports l bytes left right work answer r
       → Reports h bytes left right work2 answer2 s → r ≡ s
   reports-same x y =
-      let one : x .sheet ≡ y .sheet = one-sheet bytes (x .chosen .written) (y .chosen .written) in
-      x .report
+      let one : x .sheet ≡ y .sheet = one-sheet bytes (x .read .written) (y .read .written) in
+      x .given
       ∙ report-same l h (x .sheet) left right (x .no-limit)
       (subst (λ (t : Sheet). PassesLimit t h (startsOf t left right) → ⊥) (sym one) (y .no-limit))
-      ∙ ap (λ (t : Sheet). reportFor h t left right) one ∙ sym (y .report)
+      ∙ ap (λ (t : Sheet). reportFor h t left right) one ∙ sym (y .given)
 
   module _ (le : NoGreater l h) where
     -- The lower reports: so does the higher, where its slices are long enough.
@@ -89,11 +90,11 @@ module _ (l h : Limits) (bytes : List ℕ) (left right : ℕ) where
         none-higher (x .sheet) (startsOf (x .sheet) left right) le (x .no-limit) in
         record {
           sheet = x .sheet;
-          chosen = x .chosen;
+          read = x .read;
           work-room = w;
           no-limit = none;
           answer-room = a;
-          report = x .report ∙ report-same l h (x .sheet) left right (x .no-limit) none;
+          given = x .given ∙ report-same l h (x .sheet) left right (x .no-limit) none;
         }
 
     module _ {work answer : ℕ} where

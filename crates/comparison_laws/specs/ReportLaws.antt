@@ -60,24 +60,34 @@ members-short t (p ∷ ps) f =
     let here : length (p .threads) ≤ t = f p (List·Memᴰ·head refl) in
     rw (suc-mul (length ps) (memberLength t)) (omega arith)
 
--- The room named by the limits suffices for a report on a set that they allow, where the set has no more rounds than members.
-pub report-room : (sheet : Sheet) (l : Limits) (set : List Configuration) (p q : Configuration)
-    → ((m : Configuration) → List·Memᴰ m set → length (m .threads) ≤ l .threads) → length set ≤ l .members → length (rounds sheet set) ≤ length set
-    → length (reportBytes (reportOn sheet set p q)) ≤ reportRoom l
+-- a set that passes no limit has at most so many members, each of at most so many threads
+pub within-limits : (l : Limits) (set : List Configuration) → over l set ≡ false
+    → (length set ≤ l .members) × ((m : Configuration) → List·Memᴰ m set → length (m .threads) ≤ l .threads)
+within-limits l set within =
+    let no = or-false (ltb (l .members) (length set)) (any (λ m. ltb (l .threads) (length (m .threads))) set) within in (
+      ltb-false (l .members) (length set) (no .0),
+      (λ m i. ltb-false (l .threads) (length (m .threads)) (any-no (λ m. ltb (l .threads) (length (m .threads))) set (no .1) i)),
+    )
+
+members-shorter : (l : Limits) (set : List Configuration) → over l set ≡ false → membersLength set ≤ l .members * memberLength (l .threads)
+members-shorter l set within =
+    let h = within-limits l set within in
+    le-trans (members-short (l .threads) set (h .1)) (mul-le-mul-right (memberLength (l .threads)) (h .0))
+
+-- the room that the limits name for the members of a set that passes none of them
+pub members-room : (l : Limits) (set : List Configuration) (classes : List ℕ) → over l set ≡ false
+    → length (membersBytes set classes) ≤ l .members * memberLength (l .threads)
+members-room l set classes within = omega (arith, members-length set classes, members-shorter l set within)
+
+-- The room named by the limits suffices for a report on a set that passes none of them, where it has no more rounds than members.
+pub report-room-within : (sheet : Sheet) (l : Limits) (set : List Configuration) (p q : Configuration)
+    → over l set ≡ false → length (rounds sheet set) ≤ length set → length (reportBytes (reportOn sheet set p q)) ≤ reportRoom l
 unfolding reportOn
-report-room sheet l set p q threads members rounds-few =
+report-room-within sheet l set p q within rounds-few =
     omega (
       arith,
       report-length (reportOn sheet set p q),
-      le-trans (members-short (l .threads) set threads) (mul-le-mul-right (memberLength (l .threads)) members),
+      members-shorter l set within,
+      within-limits l set within .0,
       trail-length sheet set (rounds sheet set) p q,
     )
-
--- the same of a set that passes no limit
-pub report-room-within : (sheet : Sheet) (l : Limits) (set : List Configuration) (p q : Configuration)
-    → over l set ≡ false → length (rounds sheet set) ≤ length set → length (reportBytes (reportOn sheet set p q)) ≤ reportRoom l
-report-room-within sheet l set p q within rounds-few =
-    let no = or-false (ltb (l .members) (length set)) (any (λ m. ltb (l .threads) (length (m .threads))) set) within in
-    report-room sheet l set p q
-    (λ m i. ltb-false (l .threads) (length (m .threads)) (any-no (λ m. ltb (l .threads) (length (m .threads))) set (no .1) i))
-    (ltb-false (l .members) (length set) (no .0)) rounds-few

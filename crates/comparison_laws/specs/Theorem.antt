@@ -30,7 +30,7 @@ use Rattle.comparison_laws.specs.SetLaws.{explored-seeds, explored-membe
 use Rattle.comparison_laws.specs.ResultLaws.{classes-length, Result, result-is, classes-by-first, stable-classes, rounds-of, rounds-at}
 use Rattle.comparison_laws.specs.TrailLaws.{apart-le, trail-none}
 use Rattle.comparison_laws.specs.TrailWalk.{together-below, apart-first, trail-walkable}
-use Rattle.comparison.specs.Promise.{ResultRound, NumberedByFirst, Walkable, Faithful}
+use Rattle.comparison.specs.Promise.{ResultRound, NumberedByFirst, Walkable, Classified, Faithful}
 
 -- round m holds what round n holds, m up to n
 pub round-down : (sheet : Sheet) (m k : ℕ) (p q : Configuration) → Round (transitions sheet) (k + m) p q → Round (transitions sheet) m p q
@@ -95,6 +95,18 @@ module _ (sheet : Sheet) (wf : WellFormed sheet) (l : Limits) (seeds : List Conf
       stable = result-stable;
       first = λ m k st. result .first m k (stable-equal m st);
     }
+
+    -- the set is listed whole with the classes of bisimilarity, numbered by first member
+    pub result-classified : Classified sheet seeds set (getD (rounds sheet set) N [])
+    result-classified =
+        let at : getD (rounds sheet set) N [] ≡ classes sheet set N = rounds-at sheet set wf closed-set some N (omega (arith, rounds-length)) in
+        record {
+          ordered = explored-ascends sheet l seeds;
+          whole = whole;
+          classes = result-classes;
+          classed = ap length at ∙ classes-length sheet set N;
+          numbering = subst NumberedByFirst (sym at) (classes-by-first sheet set N);
+        }
 
     module _ (p q : Configuration) (mp : List·Memᴰ p set) (mq : List·Memᴰ q set) where
       abbrev apart : ℕ
@@ -205,19 +217,6 @@ module _ (sheet : Sheet) (wf : WellFormed sheet) (l : Limits) (p q : Configurati
   closed-members : ClosedList sheet members
   closed-members = explored-closed sheet l seeds within-limits
 
-  classes-of : NumberedByFirst (getD (rounds sheet members) (resultOf (rounds sheet members)) [])
-  classes-of =
-      let n : ℕ = resultOf (rounds sheet members) in
-      subst NumberedByFirst
-      (sym (rounds-at sheet members wf closed-members some-member n (omega (arith, rounds-of sheet members wf closed-members some-member .some))))
-      (classes-by-first sheet members n)
-
-  classed-of : length (getD (rounds sheet members) (resultOf (rounds sheet members)) []) ≡ length members
-  classed-of =
-      let n : ℕ = resultOf (rounds sheet members) in
-      ap length (rounds-at sheet members wf closed-members some-member n (omega (arith, rounds-of sheet members wf closed-members some-member .some)))
-      ∙ classes-length sheet members n
-
   walks-of : {v : Verdict} {n : ℕ} → Tells v n → v ≡ DIFF → Walkable sheet n p q (trail sheet members (rounds sheet members) p q)
   walks-of (told-same s f) e = absurd (same-not-diff e)
   walks-of (told-diff h f) e =
@@ -233,15 +232,11 @@ module _ (sheet : Sheet) (wf : WellFormed sheet) (l : Limits) (p q : Configurati
       let t : Tells (verdictOf (rounds sheet members) (apartIn members (rounds sheet members) p q)) (roundOf (rounds sheet members) (apartIn members (rounds sheet members) p q)) =
       told sheet wf l seeds of-seeds within-limits some-member p q left-in right-in in
       record {
-        ordered = explored-ascends sheet l seeds;
-        whole = in-set;
-        classes = result-classes sheet wf l seeds of-seeds within-limits some-member;
+        listed = result-classified sheet wf l seeds of-seeds within-limits some-member;
         diff = diff-of t;
         diff-round = diff-round-of t;
         same = same-of t;
         same-round = same-round-of t;
-        classed = classed-of;
-        numbering = classes-of;
         trail-walks = walks-of t;
         trail-none = no-steps-of t;
         left-place = (placeOf-lt members p left-in, placeOf-at members p left-in);

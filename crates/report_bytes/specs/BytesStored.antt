@@ -12,7 +12,9 @@ use Rattle.lists.specs.Lists.{concatMap}
 use Rattle.list_laws.specs.SortingLaws.{concatMap-next}
 use Rattle.text.specs.Slices.{Stored}
 use Rattle.text.specs.StoredText.{stored-then, stored-length}
-use Rattle.report_records.specs.RecordLayout.{memberBytesAt, stepBytesAt}
+use Rattle.packing.specs.PackingLaws.{packed-count}
+use Rattle.report_records.specs.RecordLayout.{PackedAt, memberBytesAt, stepBytesAt}
+use Rattle.report_records.specs.RecordsStored.{member-length}
 use Rattle.report_bytes.specs.ReportLayout.{membersPart, trailPart, heldBytes}
 
 -- ---- parts by their places
@@ -60,8 +62,24 @@ steps-length w (suc k) =
     let e : suc k ≡ k + 1 = omega arith in
     omega (arith, ap (λ (j : ℕ). length (joined (stepBytesAt w) j)) e, joined-length (stepBytesAt w) k, steps-length w k)
 
--- two bytes for each count, seven for each step, and the members
-pub held-length : (w : List ℕ) (n k : ℕ) → length (heldBytes w n k) ≡ 4 + 7 * k + length (joined (memberBytesAt w) n)
+-- no member is longer than thirteen bytes
+pub members-within : (w : List ℕ) (n : ℕ) → ((i : ℕ) → i < n → PackedAt w i) → length (membersPart w n) ≤ 2 + 13 * n
+unfolding tabulate
+members-within w zero f = omega arith
+members-within w (suc n) f =
+    let e : suc n ≡ n + 1 = omega arith in
+    let p = f n (omega arith) in
+    omega (
+      arith,
+      ap (λ (j : ℕ). length (joined (memberBytesAt w) j)) e,
+      joined-length (memberBytesAt w) n,
+      member-length w n p,
+      packed-count p,
+      members-within w n (λ i l. f i (omega arith)),
+    )
+
+-- the members, two bytes for the count of steps, and seven for each step
+pub held-length : (w : List ℕ) (n k : ℕ) → length (heldBytes w n k) ≡ length (membersPart w n) + 2 + 7 * k
 held-length w n k = omega (arith, length-append (membersPart w n) (trailPart w k), steps-length w k)
 
 -- ---- from the slice's start, and a part that is lent

@@ -48,9 +48,13 @@ abbrev pub stepNumbers : List Configuration → TrailStep → StepNumbers
 stepNumbers set s =
     record { side = sideByte (s .side); label = s .label; target = placeOf set (s .target); reply = replyNumber set (s .reply) }
 
--- the slice has a report's members in their order with their classes, and its steps
+-- the slice has these members in their order, with these classes
+pub record MembersAgree (members : List Configuration) (numbers w : List ℕ) (n : ℕ) : Type 0 where
+  pub set : setIn w n ≡ members
+  pub ascending : Ascends configurationBefore members
+  pub classes : (i : ℕ) → i < n → classIn w i ≡ getD numbers i 0
+
+-- the slice has a report's members with their classes, and its steps
 pub record Agrees (r : Report) (w : List ℕ) (n k : ℕ) : Type 0 where
-  pub members : setIn w n ≡ r .members
-  pub ascending : Ascends configurationBefore (r .members)
-  pub classes : (i : ℕ) → i < n → classIn w i ≡ getD (r .classes) i 0
+  pub listed : MembersAgree (r .members) (r .classes) w n
   pub steps : tabulate (stepIn w) k ≡ map (stepNumbers (r .members)) (r .steps)

@@ -1,4 +1,4 @@
--- The bytes of a report in the work slice are those that document 01 has for the report.
+-- The bytes of members and of a report in the work slice are those that document 01 has for them.
 use mathlib.Core.Path.{_≡_, refl, sym, ap, ap₂, _∙_, subst}
 use mathlib.Core.List.{List, [], _∷_, _++_, map, append-assoc}
 use Prim.Native.Nat.{ℕ, zero, suc, _+_, _<_}
@@ -8,23 +8,23 @@ use Rattle.lists.specs.Lists.{Ascends, concatMap}
 use Rattle.list_laws.specs.Tabulate.{tabulate, tabulate-length, tabulate-at}
 use Rattle.list_laws.specs.TabulateLaws.{mem-tabulate, ascends-apart}
 use Rattle.list_laws.specs.SortingLaws.{concatMap-next}
-use Rattle.sheets.specs.Sheet.{Configuration}
+use Rattle.sheets.specs.Sheet.{Configuration, Sheet}
 use Rattle.move_laws.specs.OrderLaws.{configurationOrder}
 use Rattle.moves.specs.Orders.{configurationBefore}
-use Rattle.work_layout.specs.SetLayout.{memberAt}
+use Rattle.work_layout.specs.SetLayout.{memberAt, SetHeld}
 use Rattle.comparison.specs.Classes.{placeOf, classOf}
 use Rattle.comparison_laws.specs.ClassLaws.{placeOf-lt, placeOf-at}
 use Rattle.comparison.specs.Trail.{TrailStep}
 use Rattle.sheets.specs.SheetBytes.{wordBytes}
 use Rattle.comparison.specs.Report.{Report, memberBytes, membersBytes, stepBytes, reportBytes}
 use Rattle.report_records.specs.RecordLayout.{memberBytesAt, stepBytesAt}
-use Rattle.report_bytes.specs.ReportLayout.{heldBytes}
-use Rattle.report_bytes.specs.ReportInSlice.{StepNumbers, stepIn, stepNumbers, Agrees}
-use Rattle.work_layout.specs.ClassLayout.{classIn}
+use Rattle.report_bytes.specs.ReportLayout.{membersPart, heldBytes}
+use Rattle.report_bytes.specs.ReportInSlice.{StepNumbers, stepIn, stepNumbers, MembersHeld, MembersAgree, Agrees}
+use Rattle.work_layout.specs.ClassLayout.{classIn, classesIn}
 
 -- lists joined by places are those of the elements at the places
 module _ {A : Type 0} (f : A → List ℕ) (g : ℕ → A) (h : ℕ → List ℕ) where
-  joined-alike : (n : ℕ) → ((i : ℕ) → i < n → h i ≡ f (g i)) → concatMap h (tabulate (λ i. i) n) ≡ concatMap f (tabulate g n)
+  pub joined-alike : (n : ℕ) → ((i : ℕ) → i < n → h i ≡ f (g i)) → concatMap h (tabulate (λ i. i) n) ≡ concatMap f (tabulate g n)
   unfolding tabulate
   joined-alike zero e = refl
   joined-alike (suc n) e =
@@ -33,7 +33,7 @@ module _ {A : Type 0} (f : A → List ℕ) (g : ℕ → A) (h : ℕ → List ℕ
       ∙ sym (concatMap-next f (tabulate g n) (g n))
 
 -- the place of the i-th of different members is i
-place-is : (g : ℕ → Configuration) (n : ℕ) → Ascends configurationBefore (tabulate g n) → (i : ℕ) → i < n → placeOf (tabulate g n) (g i) ≡ i
+pub place-is : (g : ℕ → Configuration) (n : ℕ) → Ascends configurationBefore (tabulate g n) → (i : ℕ) → i < n → placeOf (tabulate g n) (g i) ≡ i
 place-is g n asc i l =
     let m = mem-tabulate g n i l in
     let j : ℕ = placeOf (tabulate g n) (g i) in
@@ -50,26 +50,45 @@ steps-bytes : (set : List Configuration) (steps : List TrailStep)
 steps-bytes set [] = refl
 steps-bytes set (s ∷ steps) = ap (λ (l : List ℕ). stepBytes set s ++ l) (steps-bytes set steps)
 
-module _ (r : Report) (w : List ℕ) (n k : ℕ) (H : Agrees r w n k) where
-  pub held-members-count : n ≡ length (r .members)
-  held-members-count = sym (tabulate-length (memberAt w) n) ∙ ap length (H .members)
+-- ---- members
+-- a set that stands in the slice can be read from there
+pub members-held : {sheet : Sheet} {set : List Configuration} {w : List ℕ} {n m : ℕ} → SetHeld sheet set w n m → MembersHeld w n
+members-held H = record { long = H .long; few = H .few .0; packed = H .packed }
 
-  pub held-steps-count : k ≡ length (r .steps)
-  held-steps-count = sym (tabulate-length (stepIn w) k) ∙ ap length (H .steps) ∙ length-map (r .steps) (stepNumbers (r .members))
+-- with the classes that stand there
+pub members-agree : {sheet : Sheet} {set : List Configuration} {w : List ℕ} {n m : ℕ} {numbers : List ℕ} → SetHeld sheet set w n m
+    → Ascends configurationBefore set → classesIn w n ≡ numbers → MembersAgree set numbers w n
+members-agree {w = w} {n} H up e =
+    record {
+      set = H .members;
+      ascending = up;
+      classes = λ i l. sym (tabulate-at (classIn w) n i 0 l) ∙ ap (λ (c : List ℕ). getD c i 0) e;
+    }
 
-  place-in : (i : ℕ) → i < n → placeOf (r .members) (memberAt w i) ≡ i
+module _ (members : List Configuration) (numbers w : List ℕ) (n : ℕ) (H : MembersAgree members numbers w n) where
+  count-in : n ≡ length members
+  count-in = sym (tabulate-length (memberAt w) n) ∙ ap length (H .set)
+
+  place-in : (i : ℕ) → i < n → placeOf members (memberAt w i) ≡ i
   place-in i l =
-      subst (λ (set : List Configuration). placeOf set (memberAt w i) ≡ i) (H .members)
-      (place-is (memberAt w) n (subst (Ascends configurationBefore) (sym (H .members)) (H .ascending)) i l)
+      subst (λ (set : List Configuration). placeOf set (memberAt w i) ≡ i) (H .set)
+      (place-is (memberAt w) n (subst (Ascends configurationBefore) (sym (H .set)) (H .ascending)) i l)
 
-  class-in : (i : ℕ) → i < n → classIn w i ≡ classOf (r .members) (r .classes) (memberAt w i)
-  class-in i l = H .classes i l ∙ ap (λ (j : ℕ). getD (r .classes) j 0) (sym (place-in i l))
+  class-in : (i : ℕ) → i < n → classIn w i ≡ classOf members numbers (memberAt w i)
+  class-in i l = H .classes i l ∙ ap (λ (j : ℕ). getD numbers j 0) (sym (place-in i l))
 
-  members-in : concatMap (memberBytesAt w) (tabulate (λ i. i) n) ≡ membersBytes (r .members) (r .classes)
-  members-in =
-      joined-alike (λ p. memberBytes p (classOf (r .members) (r .classes) p)) (memberAt w) (memberBytesAt w) n
+  -- their bytes, with the count before them
+  pub held-members : membersPart w n ≡ wordBytes (length members) ++ membersBytes members numbers
+  held-members =
+      ap₂ (λ (c : ℕ) (l : List ℕ). wordBytes c ++ l) count-in
+      (joined-alike (λ p. memberBytes p (classOf members numbers p)) (memberAt w) (memberBytesAt w) n
       (λ i l. ap (memberBytes (memberAt w i)) (class-in i l))
-      ∙ ap (concatMap (λ p. memberBytes p (classOf (r .members) (r .classes) p))) (H .members)
+      ∙ ap (concatMap (λ p. memberBytes p (classOf members numbers p))) (H .set))
+
+-- ---- the report
+module _ (r : Report) (w : List ℕ) (n k : ℕ) (H : Agrees r w n k) where
+  steps-count : k ≡ length (r .steps)
+  steps-count = sym (tabulate-length (stepIn w) k) ∙ ap length (H .steps) ∙ length-map (r .steps) (stepNumbers (r .members))
 
   steps-in : concatMap (stepBytesAt w) (tabulate (λ i. i) k) ≡ concatMap (stepBytes (r .members)) (r .steps)
   steps-in =
@@ -81,7 +100,6 @@ module _ (r : Report) (w : List ℕ) (n k : ℕ) (H : Agrees r w n k) where
   held-report =
       let m : List ℕ = wordBytes (length (r .members)) ++ membersBytes (r .members) (r .classes) in
       let s : List ℕ = concatMap (stepBytes (r .members)) (r .steps) in
-      ap₂ (λ (a b : List ℕ). a ++ b)
-      (ap₂ (λ (c : ℕ) (l : List ℕ). wordBytes c ++ l) held-members-count members-in)
-      (ap₂ (λ (c : ℕ) (l : List ℕ). wordBytes c ++ l) held-steps-count steps-in)
+      ap₂ (λ (a b : List ℕ). a ++ b) (held-members (r .members) (r .classes) w n (H .listed))
+      (ap₂ (λ (c : ℕ) (l : List ℕ). wordBytes c ++ l) steps-count steps-in)
       ∙ sym (append-assoc m (wordBytes (length (r .steps))) s)

@@ -1,4 +1,4 @@
-// The answer bytes of a report that stands in the work slice: members with their classes, then the trail section.
+// The answer bytes of members that stand in the work slice with their classes, and of a report, which has the trail section behind them.
 use report_records::put_member;
 use report_records::put_step;
 use report_records::put_word;
@@ -11,7 +11,7 @@ ghost use Rattle.report_bytes.specs.ReportLayout.{membersPart, trailPart
 ghost use Rattle.report_bytes.specs.ReportInSlice.{MembersHeld, StepsHeld, ReportHeld};
 
 // Stores the count of members and the members from the slice's start, and gives the place after the last.
-fn put_members(work: &[u32], n: usize, out: &mut [u8]) -> usize
+pub fn put_members(work: &[u32], n: usize, out: &mut [u8]) -> usize
     requires { ⌜ MembersHeld (now work) n × (length (membersPart (now work) n) ≤ length (now out)) ⌝ }
     ensures { λ r. ⌜ Stored (now (out .entry)) 0 (membersPart (now (work .entry)) n) (now (out .exit)) r ⌝ }
 {
@@ -37,18 +37,26 @@ fn put_trail(work: &[u32], k: usize, out: &mut [u8])
     }
 }
 
-// The report's length in bytes.
-pub fn report_length(work: &[u32], n: usize, k: usize) -> usize
-    requires { ⌜ ReportHeld (now work) n k ⌝ }
-    ensures { λ r. ⌜ r ≡ length (heldBytes (now (work .entry)) n k) ⌝ }
+// The length in bytes of the count of members and the members.
+pub fn members_length(work: &[u32], n: usize) -> usize
+    requires { ⌜ MembersHeld (now work) n ⌝ }
+    ensures { λ r. ⌜ r ≡ length (membersPart (now (work .entry)) n) ⌝ }
 {
-    let mut total: usize = 4 + 7 * k;
+    let mut total: usize = 2;
     let mut place: usize = 0;
     while place < n {
         total += 5 + (work[work_layout::MEMBERS + 3 * place] % 256) as usize;
         place += 1;
     }
     total
+}
+
+// The report's length in bytes.
+pub fn report_length(work: &[u32], n: usize, k: usize) -> usize
+    requires { ⌜ ReportHeld (now work) n k ⌝ }
+    ensures { λ r. ⌜ r ≡ length (heldBytes (now (work .entry)) n k) ⌝ }
+{
+    members_length(work, n) + 2 + 7 * k
 }
 
 // Writes the report into the front of the answer slice; the trail goes into a part lent from after the members.

@@ -86,7 +86,7 @@ module _ (q : Report) (fit : Fitting q) (answer : List ℕ) (begins : take (repo
 
   count-is : countIn answer 0 ≡ length set
   count-is =
-      let few = fit .few-members in
+      let few = fit .listed .few in
       omega (arith, few, word-read answer 0 (length set) members-bytes at-start (omega (arith, few)))
 
   each-member : (i at : ℕ) (more : List ℕ) → i < length set → drop at answer ≡ member-bytes (getD set i no-member) ++ more
@@ -96,9 +96,9 @@ module _ (q : Report) (fit : Fitting q) (answer : List ℕ) (begins : take (repo
   each-member i at more l h =
       let p : Configuration = getD set i no-member in
       let inn : List·Memᴰ p set = getD-in set i no-member l in
-      let place : placeOf set p ≡ i = place-of-member set (fit .ordered) no-member i l in
-      let small : class p < 65536 = fit .classes (placeOf set p) (omega arith) in
-      let r = member-read answer at p (class p) more h (fit .stores p inn) (fit .threads p inn) small in
+      let place : placeOf set p ≡ i = place-of-member set (fit .listed .ordered) no-member i l in
+      let small : class p < 65536 = fit .listed .classes (placeOf set p) (omega arith) in
+      let r = member-read answer at p (class p) more h (fit .listed .stores p inn) (fit .listed .threads p inn) small in
       (member-text answer at i p (class p) r ∙ ap (λ (k : ℕ). memberLine k p (class p)) (sym place), r .end)
 
   members-are : (membersText answer (length set) ≡ memberLines set (q .classes))
@@ -128,7 +128,7 @@ module _ (q : Report) (fit : Fitting q) (answer : List ℕ) (begins : take (repo
       → (stepText answer at ≡ stepLine set (getD steps i no-step)) × (stepEnd at ≡ at + length (stepBytes set (getD steps i no-step)))
   each-step i at more l h =
       let t : TrailStep = getD steps i no-step in
-      step-read answer at set t more h (omega (arith, fit .few-members)) (fit .steps t (getD-in steps i no-step l) .label)
+      step-read answer at set t more h (omega (arith, fit .listed .few)) (fit .steps t (getD-in steps i no-step l) .label)
 
   steps-are : stepsText answer (trailPlace answer + 2) (length steps) ≡ concatMap (stepLine set) steps
   steps-are =

@@ -14,7 +14,7 @@ use Rattle.list_laws.specs.Tabulate.{tabulate-length, tabulate-at}
 use Rattle.sheets.specs.Sheet.{Configuration, Sheet}
 use Rattle.work_layout.specs.SetLayout.{memberAt, SetHeld}
 use Rattle.comparison.specs.Classes.{classOf, share}
-use Rattle.comparison.specs.Rounds.{classes, rounds}
+use Rattle.comparison.specs.Rounds.{classes, rounds, resultOf}
 use Rattle.comparison_laws.specs.ClassLaws.{numbered-length}
 use Rattle.comparison_laws.specs.RoundLaws.{share-round}
 use Rattle.comparison_laws.specs.ResultLaws.{classes-by-first, rounds-at}
@@ -47,6 +47,14 @@ pub rounds-number-ready : {sheet : Sheet} {set : List Configuration} {w : List �
     → NumberReady w n
 rounds-number-ready {count = count} H =
     record { count = count; classed = H .classed; few = H .ready .held .few .0; long = H .ready .held .long }
+
+-- the classes that stand there then are those of the result's round
+pub result-numbers : {sheet : Sheet} {set : List Configuration} {v : List ℕ} {n m r count : ℕ} {w : List ℕ} → Renumbered v n w
+    → RoundsHeld sheet set v n m r count → classesIn w n ≡ getD (rounds sheet set) (resultOf (rounds sheet set)) []
+result-numbers {sheet} {set} {m = m} {r} {count} N H =
+    let x = N .numbers sheet set m r count H in
+    let e : resultOf (rounds sheet set) ≡ r = omega (arith, H .last) in
+    x .1 ∙ sym (x .2) ∙ ap (λ (a : ℕ). getD (rounds sheet set) a []) (sym e)
 
 -- the number at place i is one of an earlier place, or the least that no earlier place has
 abbrev At : (ℕ → ℕ) → ℕ → Type 0

@@ -8,7 +8,7 @@ use Prim.Native.Nat.{ℕ, suc, _+_, _*_, _-_, _/_, _%_, _≤_, _<_}
 use native.Mathlib.Omega.{arith}
 use native.Mathlib.Numerals.{add-one}
 use lib.ListN.{length, getD, drop, length-map}
-use lib.Dec.{eqb, ltb}
+use lib.Dec.{eqb}
 use borrow.Author.Tests.{lt-ltb, le-ltb}
 use Rattle.list_laws.specs.Frames.{SameOutside, outside-then}
 use Rattle.list_laws.specs.ListPlaces.{getD-image}
@@ -20,7 +20,7 @@ use Rattle.sheet_types.specs.declared.Configuration as struct
 use Rattle.sheet_types.specs.HeldSheet.{configuration}
 use Rattle.work_layout.specs.SetLayout.{memberAt, SetHeld}
 use Rattle.comparison.specs.Classes.{placeOf}
-use Rattle.comparison.specs.Rounds.{classes, rounds, resultOf, apartIn}
+use Rattle.comparison.specs.Rounds.{classes, rounds, apartIn}
 use Rattle.comparison.specs.Trail.{Side, left, right, none, TrailStep, trail}
 use Rattle.comparison.specs.Report as spec
 use Rattle.comparison.specs.Report.{SAME, DIFF, sideByte, reportOn, reportBytes, reportLength, Compares}
@@ -33,11 +33,11 @@ use Rattle.class_splits.specs.ClassedPlaces.{classed-count, classed-same}
 use Rattle.class_rounds.specs.RoundAtHand.{nobody, TogetherHeld, SetReady}
 use Rattle.class_rounds.specs.RoundsDone.{Ready, RoundsHeld, Refined, ready-same}
 use Rattle.separations.specs.ApartClasses.{rounds-apart}
-use Rattle.separations.specs.ReportClasses.{NumberReady, Renumbered}
+use Rattle.separations.specs.ReportClasses.{NumberReady, Renumbered, result-numbers}
 use Rattle.report_records.specs.RecordLayout.{sideIn}
 use Rattle.report_bytes.specs.ReportLayout.{heldBytes}
 use Rattle.report_bytes.specs.ReportInSlice.{StepNumbers, stepIn, stepNumbers, ReportHeld, Agrees}
-use Rattle.report_bytes.specs.ReportInSliceLaws.{held-report}
+use Rattle.report_bytes.specs.ReportInSliceLaws.{members-held, members-agree, held-report}
 use Rattle.telling_moves.specs.TrailLayout.{apartAt, TrailHeld, BirthsHeld, Followable}
 use Rattle.trail_search.specs.FollowedTrail.{Trailed}
 use Rattle.answers.specs.declared.Answer.the-variants.{Report, Refused}
@@ -192,7 +192,7 @@ module _ {v : List ℕ} {n m : ℕ} {w : List ℕ} {r count : ℕ} (R : Refined 
     -- the report can be read from the slice
     pub report-held : ReportHeld x n k
     report-held = record {
-      members = record { long = numbered .0 .long; few = numbered .0 .few .0; packed = numbered .0 .packed };
+      members = members-held (numbered .0);
       steps = record {
         long = numbered .0 .long;
         few = omega (arith, T .short, R .bounds, numbered .0 .few .0);
@@ -204,13 +204,7 @@ module _ {v : List ℕ} {n m : ℕ} {w : List ℕ} {r count : ℕ} (R : Refined 
     pub report-agrees : memberAt w i ≡ p → memberAt w j ≡ q → Agrees (reportOn sheet set p q) x n k
     unfolding reportOn
     report-agrees ep eq = record {
-      members = numbered .0 .members;
-      ascending = S .ascends;
-      classes = λ l h.
-          let e : resultOf (rounds sheet set) ≡ r = omega (arith, rounds-now .last) in
-          sym (tabulate-at (classIn x) n l 0 h)
-          ∙ ap (λ (c : List ℕ). getD c l 0)
-          (numbered .1 ∙ sym (numbered .2) ∙ ap (λ (a : ℕ). getD (rounds sheet set) a []) (sym e));
+      listed = members-agree (numbered .0) (S .ascends) (result-numbers N (rounds-kept rounds-now (T .outside)));
       steps = steps-are
           ∙ ap₂ (λ (a b : Configuration). map (stepNumbers set) (trail sheet set (rounds sheet set) a b)) ep eq;
     }

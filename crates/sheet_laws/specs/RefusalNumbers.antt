@@ -162,9 +162,16 @@ low-choice s left right =
     low-if (leb (length (sheet .starts)) left) 14 0 (record { above = omega arith; within = omega arith })
     (low-if (leb (length (sheet .starts)) right) 14 1 (record { above = omega arith; within = omega arith }) (low-got sheet end)))
 
--- a refusal by the sheet or the choice has such a number
-pub number-low : (s : List ℕ) (left right number place : ℕ) → readChoice s left right ≡ refused number place → Numbered number
-number-low s left right number place e = back (subst (λ (m : Reading Sheet). Low m) e (low-choice s left right))
+refused-low : {m : Reading Sheet} {number place : ℕ} → Low m → m ≡ refused number place → Numbered number
+refused-low {m} {number} {place} low e = back (subst (λ (r : Reading Sheet). Low r) e low)
   where
     back : {k p : ℕ} → Low {A = Sheet} (refused k p) → Numbered k
     back (low-refused k p h) = h
+
+-- a refusal by the sheet has such a number
+pub sheet-number-low : (s : List ℕ) (number place : ℕ) → readSheet s ≡ refused number place → Numbered number
+sheet-number-low s number place e = refused-low (low-sheet s) e
+
+-- and one by the sheet or the choice
+pub number-low : (s : List ℕ) (left right number place : ℕ) → readChoice s left right ≡ refused number place → Numbered number
+number-low s left right number place e = refused-low (low-choice s left right) e

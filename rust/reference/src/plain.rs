@@ -1,4 +1,5 @@
-//! Document 01, plainly: in its order and its words, with no thought of speed.
+//! Document 01, plainly: in its order and its words, with no thought of speed. At the end stands card 1
+//! of document 02, all starts of a sheet compared together.
 
 use crate::{Judgement, Limits};
 use std::collections::{BTreeMap, BTreeSet, HashMap};
@@ -381,8 +382,9 @@ fn implied(moving: &Moving, moves: &BTreeSet<(Set, Configuration)>) -> Vec<Confi
     found
 }
 
-fn explore(moving: &mut Moving, left: &Configuration, right: &Configuration) -> Result<Members, TooLarge> {
-    let mut waiting = vec![left.clone(), right.clone()];
+/// The set that begins with these configurations.
+fn explore(moving: &mut Moving, seeds: &[Configuration]) -> Result<Members, TooLarge> {
+    let mut waiting = seeds.to_vec();
     let mut members = Members::new();
     let mut count = 0;
     while let Some(member) = waiting.pop() {
@@ -527,36 +529,63 @@ fn first_apart(rounds: &[Classes], i: usize, j: usize) -> Option<usize> {
     rounds.iter().position(|classes| classes[i] != classes[j])
 }
 
-// The report
-
-fn answer_bytes(members: &Members, classes: &Classes, steps: &[[u8; 7]]) -> Vec<u8> {
-    let mut bytes = vec![];
-    bytes.extend((members.len() as u16).to_le_bytes());
-    for (member, class) in members.keys().zip(classes) {
-        bytes.extend(member.store.to_le_bytes());
-        bytes.push(member.count as u8);
-        bytes.extend(member.threads.iter().map(|&thread| thread as u8));
-        bytes.extend((*class as u16).to_le_bytes());
-    }
-    bytes.extend((steps.len() as u16).to_le_bytes());
-    bytes.extend(steps.concat());
-    bytes
+/// A set with its rounds, from 0 to the result.
+struct Refined {
+    members: Members,
+    comparison: Comparison,
+    rounds: Vec<Classes>,
 }
 
-fn report(limits: Limits, sheet: &Sheet, left: &Configuration, right: &Configuration) -> Result<Judgement, TooLarge> {
-    let mut moving = Moving::new(sheet, limits);
-    let members = explore(&mut moving, left, right)?;
-    let comparison = Comparison::new(&moving, &members);
-    let rounds = comparison.rounds();
-    let place = |start| members.keys().position(|member| member == start).expect("a start is a member");
-    let (left, right) = (place(left), place(right));
-    let (verdict, round) = match first_apart(&rounds, left, right) {
-        None => (0, rounds.len() - 1),
+impl Refined {
+    fn new(limits: Limits, sheet: &Sheet, seeds: &[Configuration]) -> Result<Refined, TooLarge> {
+        let mut moving = Moving::new(sheet, limits);
+        let members = explore(&mut moving, seeds)?;
+        let comparison = Comparison::new(&moving, &members);
+        let rounds = comparison.rounds();
+        Ok(Refined { members, comparison, rounds })
+    }
+
+    /// The number of the result's round.
+    fn last(&self) -> usize {
+        self.rounds.len() - 1
+    }
+
+    /// The classes of the result's round.
+    fn classes(&self) -> &Classes {
+        &self.rounds[self.last()]
+    }
+
+    fn place(&self, start: &Configuration) -> usize {
+        self.members.keys().position(|member| member == start).expect("a start is a member")
+    }
+
+    /// The members as answer bytes, after their count.
+    fn member_bytes(&self) -> Vec<u8> {
+        let mut bytes = vec![];
+        bytes.extend((self.members.len() as u16).to_le_bytes());
+        for (member, class) in self.members.keys().zip(self.classes()) {
+            bytes.extend(member.store.to_le_bytes());
+            bytes.push(member.count as u8);
+            bytes.extend(member.threads.iter().map(|&thread| thread as u8));
+            bytes.extend((*class as u16).to_le_bytes());
+        }
+        bytes
+    }
+}
+
+// The report
+
+fn report(refined: &Refined, left: &Configuration, right: &Configuration) -> Judgement {
+    let (left, right) = (refined.place(left), refined.place(right));
+    let (verdict, round) = match first_apart(&refined.rounds, left, right) {
+        None => (0, refined.last()),
         Some(round) => (1, round),
     };
-    let steps = comparison.trail(&rounds, left, right);
-    let bytes = answer_bytes(&members, &rounds[rounds.len() - 1], &steps);
-    Ok(Judgement::Report { verdict, round, left, right, bytes })
+    let steps = refined.comparison.trail(&refined.rounds, left, right);
+    let mut bytes = refined.member_bytes();
+    bytes.extend((steps.len() as u16).to_le_bytes());
+    bytes.extend(steps.concat());
+    Judgement::Answer { numbers: [verdict, round, left, right, bytes.len(), 0], bytes }
 }
 
 /// What document 01 says, within these limits, about these bytes and these two starts.
@@ -568,16 +597,55 @@ pub fn judge(limits: Limits, bytes: &[u8], left: usize, right: usize) -> Judgeme
     };
     let Some(left) = sheet.starts.get(left) else { return refused(14, 0) };
     let Some(right) = sheet.starts.get(right) else { return refused(14, 1) };
-    report(limits, &sheet, left, right).unwrap_or(Judgement::TooLarge)
+    match Refined::new(limits, &sheet, &[left.clone(), right.clone()]) {
+        Ok(refined) => report(&refined, left, right),
+        Err(TooLarge) => Judgement::TooLarge,
+    }
+}
+
+// All starts: document 02, card 1
+
+fn grouping(refined: &Refined, starts: &[Configuration]) -> Judgement<3> {
+    let mut bytes = refined.member_bytes();
+    for start in starts {
+        let class = refined.classes()[refined.place(start)];
+        bytes.extend((class as u16).to_le_bytes());
+    }
+    Judgement::Answer { numbers: [refined.last(), bytes.len(), 0], bytes }
+}
+
+/// What document 02 says, within these limits, about all starts of these bytes.
+pub fn judge_all(limits: Limits, bytes: &[u8]) -> Judgement<3> {
+    let sheet = match read(bytes) {
+        Ok(sheet) => sheet,
+        Err(Refusal { number, place }) => return Judgement::Refused { number, place },
+    };
+    match Refined::new(limits, &sheet, &sheet.starts) {
+        Ok(refined) => grouping(&refined, &sheet.starts),
+        Err(TooLarge) => Judgement::TooLarge,
+    }
+}
+
+// Sizes
+
+/// How many members and moves the set has, where there are not far more than document 01's limits allow.
+fn size_from(sheet: &Sheet, seeds: &[Configuration]) -> Option<(usize, usize)> {
+    let Limits { members, moves } = Limits::DOCUMENT;
+    let limits = Limits { members: 2 * members, moves: 2 * moves };
+    let mut moving = Moving::new(sheet, limits);
+    let members = explore(&mut moving, seeds).ok()?;
+    Some((members.len(), members.values().map(|moves| moves.len()).sum()))
 }
 
 /// How many members and moves the comparison's set has, where the sheet is read, the starts are on it
 /// and there are not far more than document 01's limits allow.
 pub fn size(bytes: &[u8], left: usize, right: usize) -> Option<(usize, usize)> {
     let sheet = read(bytes).ok()?;
-    let Limits { members, moves } = Limits::DOCUMENT;
-    let limits = Limits { members: 2 * members, moves: 2 * moves };
-    let mut moving = Moving::new(&sheet, limits);
-    let members = explore(&mut moving, sheet.starts.get(left)?, sheet.starts.get(right)?).ok()?;
-    Some((members.len(), members.values().map(|moves| moves.len()).sum()))
+    size_from(&sheet, &[sheet.starts.get(left)?.clone(), sheet.starts.get(right)?.clone()])
+}
+
+/// The same of the set that begins with every start.
+pub fn size_all(bytes: &[u8]) -> Option<(usize, usize)> {
+    let sheet = read(bytes).ok()?;
+    size_from(&sheet, &sheet.starts)
 }

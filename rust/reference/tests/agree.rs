@@ -1,7 +1,7 @@
 //! The two implementations agree with each other, and with the sheets that document 01 knows.
 
-use reference::{fast, plain, Judgement, Limits, WORK_NUMBERS};
-use sheets::{alike_pair, draw, Draft, Rng, ASK, BOTH, EITHER, SHAPES, STOP, TELL};
+use reference::{fast, plain, Judgement, Limits, Returned, WORK_NUMBERS};
+use sheets::{alike_pair, damage, draw, variants, Draft, Rng, ASK, BOTH, EITHER, SHAPES, STOP, TELL};
 
 /// Sheet K of document 01.
 fn sheet_k(starts: &[(u16, &[u8])]) -> Draft {
@@ -26,7 +26,7 @@ type Short = (usize, usize, Vec<(u8, u16, u16, u16)>);
 fn short(draft: &Draft) -> Short {
     let judgement = plain::judge(Limits::DOCUMENT, &draft.bytes(), 0, 1);
     assert_eq!(plain::judge(Limits::DESK, &draft.bytes(), 0, 1), judgement);
-    let Judgement::Report { verdict, round, bytes, .. } = judgement else {
+    let Judgement::Answer { numbers: [verdict, round, ..], bytes } = judgement else {
         panic!("refused");
     };
     let number = |at: usize| u16::from_le_bytes([bytes[at], bytes[at + 1]]);
@@ -61,7 +61,24 @@ fn known_sheets() {
     };
     for limits in [Limits::DOCUMENT, Limits::DESK] {
         assert_eq!(plain::judge(limits, &growing.bytes(), 0, 1), Judgement::TooLarge);
+        assert_eq!(plain::judge_all(limits, &growing.bytes()), Judgement::TooLarge);
     }
+}
+
+#[test]
+fn all_starts_of_sheet_k() {
+    let starts: [(u16, &[u8]); 8] =
+        [(0, &[2]), (0, &[3]), (0, &[4]), (0, &[7]), (0, &[8]), (0, &[1]), (1, &[1]), (0, &[2])];
+    let bytes = sheet_k(&starts).bytes();
+    let Judgement::Answer { numbers: [round, length, place], bytes } = plain::judge_all(Limits::DOCUMENT, &bytes)
+    else {
+        panic!("refused");
+    };
+    assert_eq!((round, length, place), (2, bytes.len(), 0));
+    let classes: Vec<u16> =
+        bytes[length - 16..].chunks(2).map(|class| u16::from_le_bytes([class[0], class[1]])).collect();
+    // In the order of the members: nothing, [1], [2], [3], [4], [7], [1, 1] at store 0, then store 1.
+    assert_eq!(classes, [2, 3, 2, 4, 5, 1, 7, 2]);
 }
 
 struct Held {
@@ -78,15 +95,31 @@ impl Held {
     /// Holds one implementation to the other; gives the number that was returned.
     fn hold(&mut self, limits: Limits, bytes: &[u8], left: usize, right: usize) -> u32 {
         let judgement = plain::judge(limits, bytes, left, right);
+        self.hold_to(&judgement, &format!("{limits:?} {left} {right} {bytes:?}"), |comparer, answer, work| {
+            comparer.compare(limits, bytes, left, right, answer, work)
+        })
+    }
+
+    /// The same for all starts.
+    fn hold_all(&mut self, limits: Limits, bytes: &[u8]) -> u32 {
+        let judgement = plain::judge_all(limits, bytes);
+        self.hold_to(&judgement, &format!("{limits:?} all {bytes:?}"), |comparer, answer, work| {
+            comparer.compare_all(limits, bytes, answer, work)
+        })
+    }
+
+    fn hold_to<const N: usize>(
+        &mut self,
+        judgement: &Judgement<N>,
+        context: &str,
+        call: impl FnOnce(&mut fast::Comparer, &mut [u8], &mut [u32]) -> Returned<N>,
+    ) -> u32 {
         let mut expected = vec![0xA5; 10_237];
         let returned = judgement.call(&mut expected, &mut self.work);
         self.answer.clear();
         self.answer.resize(10_237, 0xA5);
-        let other = self.comparer.compare(limits, bytes, left, right, &mut self.answer, &mut self.work);
-        assert!(
-            returned == other && self.answer == expected,
-            "{limits:?} {left} {right} {bytes:?}\n{returned:?}\n{other:?}"
-        );
+        let other = call(&mut self.comparer, &mut self.answer, &mut self.work);
+        assert!(returned == other && self.answer == expected, "{context}\n{returned:?}\n{other:?}");
         returned.0
     }
 }
@@ -105,6 +138,29 @@ fn random_sheets() {
         for (at, seen) in [("", seen), (", desk", desk)] {
             let other = 1_500 - seen[0] - seen[21];
             println!("{}{at}: {} reports, {} too large, {other} other", shape.name, seen[0], seen[21]);
+        }
+    }
+}
+
+#[test]
+fn random_sheets_all_starts() {
+    let mut held = Held::new();
+    for shape in &SHAPES {
+        let many = shape.with_starts(2, 16);
+        let mut rng = Rng::new(2);
+        let (mut seen, mut desk) = ([0; 24], [0; 24]);
+        for i in 0..1_500 {
+            let draft = if i % 3 == 0 { draw(&many, &mut rng) } else { variants(&many, &mut rng) };
+            let mut bytes = draft.bytes();
+            if i % 10 == 9 {
+                damage(&mut bytes, &mut rng);
+            }
+            seen[held.hold_all(Limits::DOCUMENT, &bytes) as usize] += 1;
+            desk[held.hold_all(Limits::DESK, &bytes) as usize] += 1;
+        }
+        for (at, seen) in [("", seen), (", desk's limits", desk)] {
+            let other = 1_500 - seen[0] - seen[21];
+            println!("{}, all starts{at}: {} answers, {} too large, {other} other", shape.name, seen[0], seen[21]);
         }
     }
 }

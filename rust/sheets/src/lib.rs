@@ -1,5 +1,5 @@
 //! Sheets for tests and measurements, made from a seed: random sheets of many shapes, pairs of starts
-//! that are alike or nearly so, and damaged bytes.
+//! that are alike or nearly so, variants of a start, and damaged bytes.
 
 mod alike;
 mod damage;
@@ -7,7 +7,7 @@ mod draft;
 mod random;
 mod shapes;
 
-pub use alike::alike_pair;
+pub use alike::{alike_pair, variants};
 pub use damage::damage;
 pub use draft::Draft;
 pub use random::Rng;

@@ -24,6 +24,13 @@ pub struct Shape {
     pub threads: (usize, usize),
 }
 
+impl Shape {
+    /// The same with at least and at most so many starts.
+    pub fn with_starts(&self, least: usize, most: usize) -> Shape {
+        Shape { starts: (least, most), ..self.clone() }
+    }
+}
+
 const BASE: Shape = Shape {
     name: "small",
     facts: (0, 4),

@@ -1,4 +1,4 @@
-//! Holds the library's two calls to the reference, whole: what they return, every byte of the answer
+//! Holds the library's three calls to the reference, whole: what they return, every byte of the answer
 //! slice, every number of the work slice, and guards around all that is lent.
 
 #![allow(dead_code)]
@@ -6,6 +6,7 @@
 use hofadiju as _;
 use reference::{fast, plain, Judgement, Limits, Returned};
 use sheets::Rng;
+use std::fmt::Debug;
 
 extern "C" {
     fn hofadiju_compare(
@@ -31,30 +32,142 @@ extern "C" {
         work_len: usize,
         result: *mut usize,
     ) -> u32;
+
+    fn hofadiju_compare_all(
+        sheet: *const u8,
+        sheet_len: usize,
+        answer: *mut u8,
+        answer_len: usize,
+        work: *mut u32,
+        work_len: usize,
+        result: *mut usize,
+    ) -> u32;
 }
 
-/// The lengths that document 01 names, and the desk's answer.
+/// The lengths that document 01 names, the desk's answer, and the answer of all starts.
 pub const ANSWER: usize = 10_237;
 pub const DESK_ANSWER: usize = 1_277;
+pub const ALL_ANSWER: usize = 6_690;
 pub const WORK: usize = 16_384;
 
-/// One of the library's calls, its limits, and the length of an answer slice that always suffices.
+/// What is lent to a call of the library.
+pub struct Lent {
+    sheet: (*const u8, usize),
+    answer: (*mut u8, usize),
+    work: (*mut u32, usize),
+    result: *mut usize,
+}
+
+/// One of the library's calls, which returns `N` numbers, beside the two implementations of it.
+pub trait Call<const N: usize> {
+    /// The starts that are chosen.
+    type Choice: Copy + Debug;
+
+    /// The length of an answer slice that always suffices.
+    fn answer(&self) -> usize;
+
+    fn plain(&self, sheet: &[u8], choice: Self::Choice) -> Judgement<N>;
+
+    fn fast(
+        &self,
+        comparer: &mut fast::Comparer,
+        sheet: &[u8],
+        choice: Self::Choice,
+        answer: &mut [u8],
+        work: &mut [u32],
+    ) -> Returned<N>;
+
+    /// # Safety
+    ///
+    /// What is lent is valid for its lengths and does not overlap, and `result` has room for `N` numbers.
+    unsafe fn library(&self, choice: Self::Choice, lent: Lent) -> u32;
+}
+
+/// A call that compares two starts, and its limits.
 #[derive(Clone, Copy)]
-struct Call {
+pub struct CompareTwo {
     function: unsafe extern "C" fn(*const u8, usize, usize, usize, *mut u8, usize, *mut u32, usize, *mut usize) -> u32,
     limits: Limits,
     answer: usize,
 }
 
-const DOCUMENT: Call = Call { function: hofadiju_compare, limits: Limits::DOCUMENT, answer: ANSWER };
-const DESK: Call = Call { function: hofadiju_compare_desk, limits: Limits::DESK, answer: DESK_ANSWER };
+const DOCUMENT: CompareTwo = CompareTwo { function: hofadiju_compare, limits: Limits::DOCUMENT, answer: ANSWER };
+const DESK: CompareTwo = CompareTwo { function: hofadiju_compare_desk, limits: Limits::DESK, answer: DESK_ANSWER };
+
+impl Call<6> for CompareTwo {
+    /// The left and the right start.
+    type Choice = (usize, usize);
+
+    fn answer(&self) -> usize {
+        self.answer
+    }
+
+    fn plain(&self, sheet: &[u8], (left, right): (usize, usize)) -> Judgement {
+        plain::judge(self.limits, sheet, left, right)
+    }
+
+    fn fast(
+        &self,
+        comparer: &mut fast::Comparer,
+        sheet: &[u8],
+        (left, right): (usize, usize),
+        answer: &mut [u8],
+        work: &mut [u32],
+    ) -> Returned {
+        comparer.compare(self.limits, sheet, left, right, answer, work)
+    }
+
+    unsafe fn library(&self, (left, right): (usize, usize), lent: Lent) -> u32 {
+        let Lent { sheet, answer, work, result } = lent;
+        (self.function)(sheet.0, sheet.1, left, right, answer.0, answer.1, work.0, work.1, result)
+    }
+}
+
+/// The call that compares all starts.
+#[derive(Clone, Copy)]
+pub struct CompareAll;
+
+/// The only choice where all starts are compared.
+#[derive(Clone, Copy, Debug)]
+pub struct EveryStart;
+
+impl Call<3> for CompareAll {
+    type Choice = EveryStart;
+
+    fn answer(&self) -> usize {
+        ALL_ANSWER
+    }
+
+    fn plain(&self, sheet: &[u8], _: EveryStart) -> Judgement<3> {
+        plain::judge_all(Limits::DOCUMENT, sheet)
+    }
+
+    fn fast(
+        &self,
+        comparer: &mut fast::Comparer,
+        sheet: &[u8],
+        _: EveryStart,
+        answer: &mut [u8],
+        work: &mut [u32],
+    ) -> Returned<3> {
+        comparer.compare_all(Limits::DOCUMENT, sheet, answer, work)
+    }
+
+    unsafe fn library(&self, _: EveryStart, lent: Lent) -> u32 {
+        let Lent { sheet, answer, work, result } = lent;
+        hofadiju_compare_all(sheet.0, sheet.1, answer.0, answer.1, work.0, work.1, result)
+    }
+}
 
 /// Bytes or numbers before and after each lent slice.
 const GUARD: usize = 64;
 
+/// What stands before and after the result's numbers.
+const RESULT_GUARD: usize = usize::MAX - 7;
+
 /// The slices of one call inside their guards, and what must stand in them afterwards.
-pub struct Harness {
-    call: Call,
+pub struct Harness<C = CompareTwo, const N: usize = 6> {
+    call: C,
     comparer: fast::Comparer,
     sheet: Vec<u8>,
     answer: Vec<u8>,
@@ -67,7 +180,7 @@ pub struct Harness {
     pub seen: [usize; 24],
     /// How many calls of the library were held.
     pub calls: usize,
-    /// The longest report in bytes.
+    /// The longest answer in bytes.
     pub longest: usize,
 }
 
@@ -82,7 +195,28 @@ impl Harness {
         Harness::of(DESK, seed)
     }
 
-    fn of(call: Call, seed: u64) -> Harness {
+    /// The number and the place that a sheet's starts 0 and 1 give, held to the reference.
+    pub fn number(&mut self, sheet: &[u8]) -> (u32, usize) {
+        let (number, result) = self.compare_with_all_lengths(sheet, (0, 1));
+        (number, result[5])
+    }
+}
+
+impl Harness<CompareAll, 3> {
+    /// For the call that compares all starts.
+    pub fn all(seed: u64) -> Harness<CompareAll, 3> {
+        Harness::of(CompareAll, seed)
+    }
+
+    /// The number and the place that all starts of a sheet give, held to the reference.
+    pub fn number(&mut self, sheet: &[u8]) -> (u32, usize) {
+        let (number, result) = self.compare_with_all_lengths(sheet, EveryStart);
+        (number, result[2])
+    }
+}
+
+impl<C: Call<N>, const N: usize> Harness<C, N> {
+    fn of(call: C, seed: u64) -> Harness<C, N> {
         let mut rng = Rng::new(seed);
         let dirt = (0..WORK + 4_096).map(|_| rng.number() as u32).collect();
         Harness {
@@ -101,20 +235,20 @@ impl Harness {
         }
     }
 
-    /// What the two implementations say, where they agree. No report is longer than the answer slice
+    /// What the two implementations say, where they agree. No answer is longer than the answer slice
     /// that always suffices.
-    pub fn judge(&mut self, sheet: &[u8], left: usize, right: usize) -> Judgement {
-        let Call { limits, answer, .. } = self.call;
-        let judgement = plain::judge(limits, sheet, left, right);
+    pub fn judge(&mut self, sheet: &[u8], choice: C::Choice) -> Judgement<N> {
+        let answer = self.call.answer();
+        let judgement = self.call.plain(sheet, choice);
         self.answer.clear();
         self.answer.resize(answer, 0x5A);
         self.work.clear();
         self.work.resize(WORK, 1);
-        let returned = self.comparer.compare(limits, sheet, left, right, &mut self.answer, &mut self.work);
-        assert_eq!(returned, judgement.returned(answer, WORK), "the implementations: {left} {right} {sheet:?}");
-        if let Judgement::Report { bytes, .. } = &judgement {
-            assert!(bytes.len() <= answer, "a report of {} bytes: {left} {right} {sheet:?}", bytes.len());
-            assert_eq!(&self.answer[..bytes.len()], bytes, "the implementations: {left} {right} {sheet:?}");
+        let returned = self.call.fast(&mut self.comparer, sheet, choice, &mut self.answer, &mut self.work);
+        assert_eq!(returned, judgement.returned(answer, WORK), "the implementations: {choice:?} {sheet:?}");
+        if let Judgement::Answer { bytes, .. } = &judgement {
+            assert!(bytes.len() <= answer, "an answer of {} bytes: {choice:?} {sheet:?}", bytes.len());
+            assert_eq!(&self.answer[..bytes.len()], bytes, "the implementations: {choice:?} {sheet:?}");
             self.longest = self.longest.max(bytes.len());
         }
         judgement
@@ -123,35 +257,28 @@ impl Harness {
     /// One call of the library with slices of these lengths, held to the judgement.
     pub fn hold(
         &mut self,
-        judgement: &Judgement,
+        judgement: &Judgement<N>,
         sheet: &[u8],
-        (left, right): (usize, usize),
+        choice: C::Choice,
         answer_len: usize,
         work_len: usize,
-    ) -> Returned {
+    ) -> Returned<N> {
         self.fill(sheet, answer_len, work_len);
         let answer = &mut self.expected_answer[GUARD..GUARD + answer_len];
         let expected = judgement.call(answer, &mut self.expected_work[GUARD..GUARD + work_len]);
-        let mut result = [usize::MAX - 7; 8];
-        // SAFETY: the pointers and lengths are those of parts of three vectors and an array, which do
-        // not overlap.
-        let number = unsafe {
-            (self.call.function)(
-                self.sheet[GUARD..].as_ptr(),
-                sheet.len(),
-                left,
-                right,
-                self.answer[GUARD..].as_mut_ptr(),
-                answer_len,
-                self.work[GUARD..].as_mut_ptr(),
-                work_len,
-                result[1..].as_mut_ptr(),
-            )
+        let mut result = vec![RESULT_GUARD; N + 2];
+        let lent = Lent {
+            sheet: (self.sheet[GUARD..].as_ptr(), sheet.len()),
+            answer: (self.answer[GUARD..].as_mut_ptr(), answer_len),
+            work: (self.work[GUARD..].as_mut_ptr(), work_len),
+            result: result[1..].as_mut_ptr(),
         };
-        let returned = (number, [result[1], result[2], result[3], result[4], result[5], result[6]]);
-        let context = || format!("starts {left} {right}, lengths {answer_len} {work_len}, sheet {sheet:?}");
+        // SAFETY: the pointers and lengths are those of parts of four vectors, which do not overlap.
+        let number = unsafe { self.call.library(choice, lent) };
+        let returned = (number, result[1..=N].try_into().unwrap());
+        let context = || format!("starts {choice:?}, lengths {answer_len} {work_len}, sheet {sheet:?}");
         assert_eq!(returned, expected, "returned: {}", context());
-        assert!(result[0] == usize::MAX - 7 && result[7] == usize::MAX - 7, "result's guards: {}", context());
+        assert!(result[0] == RESULT_GUARD && result[N + 1] == RESULT_GUARD, "result's guards: {}", context());
         assert!(self.answer == self.expected_answer, "answer slice: {}", context());
         assert!(self.work == self.expected_work, "work slice: {}", context());
         assert_eq!(&self.sheet[GUARD..GUARD + sheet.len()], sheet, "sheet: {}", context());
@@ -180,38 +307,31 @@ impl Harness {
         (&self.answer, &self.work)
     }
 
-    /// The library on a sheet and two starts, with slices as long as they ever need to be.
-    pub fn compare(&mut self, sheet: &[u8], left: usize, right: usize) -> Returned {
-        let judgement = self.judge(sheet, left, right);
-        let returned = self.hold(&judgement, sheet, (left, right), self.call.answer, WORK);
+    /// The library on a sheet and a choice, with slices as long as they ever need to be.
+    pub fn compare(&mut self, sheet: &[u8], choice: C::Choice) -> Returned<N> {
+        let judgement = self.judge(sheet, choice);
+        let returned = self.hold(&judgement, sheet, choice, self.call.answer(), WORK);
         self.seen[returned.0 as usize] += 1;
         returned
     }
 
     /// As `compare`, and with slices of lengths around those that the call needs.
-    pub fn compare_with_all_lengths(&mut self, sheet: &[u8], left: usize, right: usize) -> Returned {
-        let judgement = self.judge(sheet, left, right);
-        let starts = (left, right);
+    pub fn compare_with_all_lengths(&mut self, sheet: &[u8], choice: C::Choice) -> Returned<N> {
+        let judgement = self.judge(sheet, choice);
         let needed = match &judgement {
-            Judgement::Report { bytes, .. } => bytes.len(),
+            Judgement::Answer { bytes, .. } => bytes.len(),
             _ => 100,
         };
-        for answer_len in [0, needed - 1, needed, needed + 1, self.call.answer] {
-            self.hold(&judgement, sheet, starts, answer_len, WORK);
+        for answer_len in [0, needed - 1, needed, needed + 1, self.call.answer()] {
+            self.hold(&judgement, sheet, choice, answer_len, WORK);
         }
         for work_len in [0, WORK - 1, WORK + 1, WORK + 777] {
-            self.hold(&judgement, sheet, starts, needed, work_len);
-            self.hold(&judgement, sheet, starts, needed - 1, work_len);
+            self.hold(&judgement, sheet, choice, needed, work_len);
+            self.hold(&judgement, sheet, choice, needed - 1, work_len);
         }
-        let returned = judgement.returned(self.call.answer, WORK);
+        let returned = judgement.returned(self.call.answer(), WORK);
         self.seen[returned.0 as usize] += 1;
         returned
-    }
-
-    /// The number and the place that a sheet's starts 0 and 1 give, held to the reference.
-    pub fn number(&mut self, sheet: &[u8]) -> (u32, usize) {
-        let (number, result) = self.compare_with_all_lengths(sheet, 0, 1);
-        (number, result[5])
     }
 
     pub fn total(&self) -> usize {

@@ -2,7 +2,7 @@
 use borrow.Author.Needs.{needs}
 use mathlib.Core.Path.{subst}
 use Rattle.comparison.specs.CallLimits.{Limits}
-use Rattle.call_frame.specs.Begun.{SetBegun}
+use Rattle.call_frame.specs.Begun.{ChoiceSet}
 use Rattle.call_frame.proofs.set_of_choice.Statement.{statement}
 use Rattle.call_frame.proofs.set_of_choice.Tie as tie
 
@@ -19,7 +19,7 @@ returns : tie.Need-returns
 returns c =
     let args = c .before .before .before .before .before .before .before .args in
     let begin = c .before .before .begin-pair in
-    subst (λ (l : Limits). SetBegun l (args .sheet .now) (args .left) (args .right) (args .work .now) (begin .last .1 .1 .1 .0) (begin .result .begun))
+    subst (λ (l : Limits). ChoiceSet l (args .sheet .now) (args .left) (args .right) (args .work .now) (begin .last .1 .1 .1 .0) (begin .result .begun))
     (c .before .before .before .document-caps .ensures .0) (begin .ensures .begun)
 
 pub set-of-choice-spec : {M : Type 1} → statement M

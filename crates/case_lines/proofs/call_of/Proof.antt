@@ -40,14 +40,34 @@ returns-3 c =
       sym (c .before .is-word3 .ensures) ∙ c .if3 .taken,
     )
 
+slice-aggregate-is-word-4 : tie.Need-slice-aggregate-is-word-4
+slice-aggregate-is-word-4 c = search needs
+
+is-word-requires-4 : tie.Need-is-word-requires-4
+is-word-requires-4 c κs = search needs
+
 returns-4 : tie.Need-returns-4
 returns-4 c =
-    let second = c .before .before .before in
+    let third = c .before .before .before in
+    let second = third .before .before .before in
     let first = second .before .before .before in
     rw (
       sym (first .before .is-word .ensures) ∙ first .if1 .left,
       sym (second .before .is-word2 .ensures) ∙ second .if2 .left,
-      sym (c .before .is-word3 .ensures) ∙ c .if3 .left,
+      sym (third .before .is-word3 .ensures) ∙ third .if3 .left,
+      sym (c .before .is-word4 .ensures) ∙ c .if4 .taken,
+    )
+
+returns-5 : tie.Need-returns-5
+returns-5 c =
+    let third = c .before .before .before in
+    let second = third .before .before .before in
+    let first = second .before .before .before in
+    rw (
+      sym (first .before .is-word .ensures) ∙ first .if1 .left,
+      sym (second .before .is-word2 .ensures) ∙ second .if2 .left,
+      sym (third .before .is-word3 .ensures) ∙ third .if3 .left,
+      sym (c .before .is-word4 .ensures) ∙ c .if4 .left,
     )
 
 pub call-of-spec : {M : Type 1} → statement M
@@ -63,4 +83,7 @@ call-of-spec =
     slice-aggregate-is-word-3
     is-word-requires-3
     returns-3
-    returns-4)
+    slice-aggregate-is-word-4
+    is-word-requires-4
+    returns-4
+    returns-5)

@@ -1,0 +1,2 @@
+pub mod ComparedAll
+pub mod ComparedAllLaws

@@ -1,0 +1,2 @@
+pub mod AllNumbers
+pub mod AllNumberLaws

@@ -1,0 +1,4 @@
+pub mod Grouping
+pub mod GroupingRead
+pub mod GroupingPromise
+pub mod KnownGroupings

@@ -1,0 +1,4 @@
+pub mod AllTheorem
+pub mod AllPromiseLaws
+pub mod AllSentences
+pub mod AllAlone

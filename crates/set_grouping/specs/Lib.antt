@@ -1,0 +1,2 @@
+pub mod GroupingMade
+pub mod GroupingMadeLaws

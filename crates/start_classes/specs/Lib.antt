@@ -1,0 +1,2 @@
+pub mod StartClasses
+pub mod StartClassLaws
