@@ -1,4 +1,5 @@
--- Rows for the call for all starts, on document 01's sheet K with all its eight starts; one statement proves them all.
+-- Rows for the call for all starts, on document 01's sheet K with all its eight starts, and with three that are one member; one statement
+-- proves them all.
 use mathlib.Core.List.{List, [], _∷_, _++_}
 use Prim.Native.Nat.{ℕ}
 use lib.Dec.{T}
@@ -13,7 +14,7 @@ use Rattle.comparison.specs.Classes.{numberedFrom}
 use Rattle.comparison.specs.Set.{exploredFrom, explored}
 use Rattle.comparison.specs.Rounds.{refined, classes, roundsFrom, rounds}
 use Rattle.comparison.specs.Outcome.{reported, refusal}
-use Rattle.comparison.specs.KnownSheets.{bytesOfK}
+use Rattle.comparison.specs.KnownSheets.{rule, start, section, threeFacts, nodesOfK, bytesOfK}
 use Rattle.comparison.specs.KnownCases.{Row, row, right, nines}
 use Rattle.answers.specs.ReadBack.{membersRead, classesRead, behindMembers}
 use Rattle.all_starts.specs.Grouping.{Groups, groupingOn, groupingBytes, groupingLength, groupingAfter, groupingRoom, compareAllWith, compareAll}
@@ -53,9 +54,19 @@ answerOfK =
     ∷ 7 ∷ 0 ∷ 0 ∷ 11 ∷ 0
     ∷ 2 ∷ 0 ∷ 2 ∷ 0 ∷ 3 ∷ 0 ∷ 4 ∷ 0 ∷ 1 ∷ 0 ∷ 7 ∷ 0 ∷ 0 ∷ 0 ∷ 5 ∷ 0 ∷ []
 
+-- the nodes of K with three starts that are the same once opened: [8], [1, 1] and [0, 1, 0, 1]
+abbrev bytesOfEqual : List ℕ
+bytesOfEqual =
+    threeFacts
+    ++ (section (rule 2 1 ∷ [])
+    ++ (section nodesOfK ++ section (start 0 (8 ∷ []) ∷ start 0 (1 ∷ 1 ∷ []) ∷ start 0 (0 ∷ 1 ∷ 0 ∷ 1 ∷ []) ∷ [])))
+
 abbrev table : List Row
 table =
     row (whole (compareAll bytesOfK workLength (groupingRoom limits))) (0 ∷ 2 ∷ 93 ∷ answerOfK)
+    -- equal starts are one member, and each has its class
+    ∷ row (whole (compareAll bytesOfEqual workLength 26))
+    (0 ∷ 2 ∷ 26 ∷ 3 ∷ 0 ∷ 0 ∷ 0 ∷ 0 ∷ 0 ∷ 0 ∷ 0 ∷ 0 ∷ 1 ∷ 1 ∷ 1 ∷ 0 ∷ 0 ∷ 0 ∷ 2 ∷ 1 ∷ 1 ∷ 2 ∷ 0 ∷ 2 ∷ 0 ∷ 2 ∷ 0 ∷ 2 ∷ 0 ∷ [])
     -- bytes beyond the answer stay, and a refusal leaves the slice as it is
     ∷ row (groupingAfter (compareAll bytesOfK workLength 95) (nines 95)) (answerOfK ++ nines 2)
     ∷ row (groupingAfter (compareAll bytesOfK workLength 92) (nines 92)) (nines 92)

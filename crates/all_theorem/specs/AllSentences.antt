@@ -28,8 +28,13 @@ use Rattle.answers.specs.ReadBack.{readBack}
 use Rattle.answers.specs.declared.Reported.{Reported}
 use Rattle.answers.specs.declared.Answer.{Answer}
 use Rattle.answers.specs.declared.Answer.the-variants.{Report, Refused}
+use Rattle.comparison.specs.Call.{compare}
+use Rattle.compare_call.specs.Compared.{Compared}
 use Rattle.call_promise.specs.CallPromise.{verdictRead, reportRead, CallPromise}
-use Rattle.all_starts.specs.Grouping.{Grouping}
+use Rattle.call_theorem.specs.CallPromiseLaws.{document-promise}
+use Rattle.all_call.specs.ComparedAll.{ComparedAll}
+use Rattle.all_theorem.specs.AllPromiseLaws.{all-document-promise}
+use Rattle.all_starts.specs.Grouping.{Grouping, compareAll}
 use Rattle.all_starts.specs.GroupingRead.{groupingRead}
 use Rattle.all_starts.specs.GroupingPromise.{FaithfulAll, AllPromise, AsCompared}
 use Rattle.all_starts.specs.declared.Grouped.{Grouped}
@@ -101,6 +106,13 @@ module _ {l h : Limits} {bytes v before w after : List ℕ} {x : Grouped} {left 
       let t = same-bisimilar (f .0) (start (f .0) left) (start (f .0) right) (reportRead y after2) r in
       let u = verdict-same (y .same) in
       ((λ i. u .0 (t .1 (s .0 i))), (λ i. s .1 (t .0 (u .1 i))))
+
+-- the two calls themselves, from their contracts
+pub calls-as-compared : (bytes : List ℕ) (left right : ℕ) {v before w after : List ℕ} {x : Grouped} {v2 before2 w2 after2 : List ℕ} {y : Reported}
+    → ComparedAll (compareAll bytes (length v) (length before)) v before w after (Classes x)
+    → Compared (compare bytes left right (length v2) (length before2)) v2 before2 w2 after2 (Report y) → AsCompared x after left right y
+calls-as-compared bytes left right {v} {before} {w} {after} {x} {v2} {before2} {w2} {after2} {y} a b =
+    as-compared (all-document-promise bytes v before w after (Classes x) a) (document-promise bytes left right v2 before2 w2 after2 (Report y) b) y refl
 
 -- ---- the larger set
 module _ (sheet : Sheet) {few more : List Configuration} (part : (p : Configuration) → List·Memᴰ p few → List·Memᴰ p more) where

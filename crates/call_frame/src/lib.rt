@@ -32,7 +32,7 @@ pub struct Started {
     pub right: Configuration,
 }
 
-// The same with all starts of the sheet, of which there are `count`.
+// The same with the starts that are the seeds, of which there are `count`.
 pub struct AllStarted {
     pub begun: Begun,
     pub starts: [Configuration; 16],
