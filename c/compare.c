@@ -1,13 +1,15 @@
-/* Reads a sheet from a file and compares its starts 0 and 1, with --desk within the desk's limits, or with
- * --all all its starts.
+/* Reads a sheet from a file and compares its starts 0 and 1, with --desk within the desk's limits and with
+ * --rounds K after K rounds, or with --all all its starts.
  *
  *   gcc -I include c/compare.c target/staticlib/libhofadiju.a -o compare
- *   ./compare [--desk | --all] samples/k-2-4.sheet
+ *   ./compare [--desk] [--rounds K] samples/k-2-4.sheet
+ *   ./compare --all samples/k-2-4.sheet
  *
- * prints the verdict and the round, or the number and the place of the refusal. With --all it prints the
- * number of classes among the starts and the round, and then a line for each group of starts that behave
- * alike. The exit status is 0 for SAME and for one group, 1 otherwise, 2 for a refusal and 3 where the file
- * cannot be read. */
+ * prints the verdict and the round, or the number and the place of the refusal. With --rounds it prints the
+ * verdict, the number of classes in that round and the number of members. With --all it prints the number
+ * of classes among the starts and the round, and then a line for each group of starts that behave alike.
+ * The exit status is 0 for SAME and for one group, 1 for DIFF and for more groups, 2 for a refusal, 3 where
+ * the words or the file cannot be read and 4 for OPEN. */
 #include "hofadiju.h"
 
 #include <stdio.h>
@@ -18,6 +20,8 @@ static uint8_t sheet[HOFADIJU_LONGEST_SHEET + 1];
 static uint8_t answer[HOFADIJU_ANSWER_BYTES];
 static uint8_t desk_answer[HOFADIJU_DESK_ANSWER_BYTES];
 static uint8_t all_answer[HOFADIJU_ALL_ANSWER_BYTES];
+static uint8_t rounds_answer[HOFADIJU_ROUNDS_ANSWER_BYTES];
+static uint8_t desk_rounds_answer[HOFADIJU_DESK_ROUNDS_ANSWER_BYTES];
 static uint32_t work[HOFADIJU_WORK_NUMBERS];
 
 static int refused(uint32_t number, size_t place)
@@ -44,6 +48,29 @@ static int compare_two(size_t length, int desk)
     printf("%s %lu\n", result[HOFADIJU_VERDICT] == HOFADIJU_SAME ? "SAME" : "DIFF",
            (unsigned long)result[HOFADIJU_ROUND]);
     return result[HOFADIJU_VERDICT] == HOFADIJU_SAME ? 0 : 1;
+}
+
+/* Compares starts 0 and 1 after so many rounds. */
+static int compare_rounds(size_t length, int desk, uint64_t rounds)
+{
+    static const char *const verdicts[] = { "SAME", "DIFF", "OPEN" };
+    static const int statuses[] = { 0, 1, 4 };
+    size_t result[HOFADIJU_ROUNDS_RESULT_NUMBERS];
+    uint32_t number;
+
+    if (desk) {
+        number = hofadiju_compare_rounds_desk(sheet, length, 0, 1, rounds, desk_rounds_answer,
+                                              sizeof desk_rounds_answer, work, HOFADIJU_WORK_NUMBERS, result);
+    } else {
+        number = hofadiju_compare_rounds(sheet, length, 0, 1, rounds, rounds_answer, sizeof rounds_answer, work,
+                                         HOFADIJU_WORK_NUMBERS, result);
+    }
+    if (number != HOFADIJU_REPORT) {
+        return refused(number, result[HOFADIJU_ROUNDS_PLACE]);
+    }
+    printf("%s %lu %lu\n", verdicts[result[HOFADIJU_ROUNDS_VERDICT]],
+           (unsigned long)result[HOFADIJU_ROUNDS_CLASSES], (unsigned long)result[HOFADIJU_ROUNDS_MEMBERS]);
+    return statuses[result[HOFADIJU_ROUNDS_VERDICT]];
 }
 
 /* The number of two bytes at a place of the answer for all starts. */
@@ -100,20 +127,54 @@ static int compare_all(size_t length)
     return groups == 1 ? 0 : 1;
 }
 
+/* Reads a decimal number of at most 64 bits; says whether the word is one. */
+static int read_number(const char *word, uint64_t *number)
+{
+    *number = 0;
+    if (*word == '\0') {
+        return 0;
+    }
+    for (; *word != '\0'; word++) {
+        unsigned digit = (unsigned)(unsigned char)*word - '0';
+
+        if (digit > 9 || *number > (UINT64_MAX - digit) / 10) {
+            return 0;
+        }
+        *number = 10 * *number + digit;
+    }
+    return 1;
+}
+
+static int usage(const char *program)
+{
+    fprintf(stderr, "usage: %s [--desk] [--rounds K] FILE | %s --all FILE\n", program, program);
+    return 3;
+}
+
 int main(int argc, char **argv)
 {
     size_t length;
+    uint64_t count = 0;
     const char *name;
-    int desk, all;
+    int desk = 0, all = 0, rounds = 0, at = 1;
     FILE *file;
 
-    desk = argc > 1 && strcmp(argv[1], "--desk") == 0;
-    all = argc > 1 && strcmp(argv[1], "--all") == 0;
-    if (argc != 2 + desk + all) {
-        fprintf(stderr, "usage: %s [--desk | --all] FILE\n", argv[0]);
-        return 3;
+    for (; at < argc && strncmp(argv[at], "--", 2) == 0; at++) {
+        if (strcmp(argv[at], "--desk") == 0) {
+            desk = 1;
+        } else if (strcmp(argv[at], "--all") == 0) {
+            all = 1;
+        } else if (strcmp(argv[at], "--rounds") == 0 && at + 1 < argc && read_number(argv[at + 1], &count)) {
+            rounds = 1;
+            at++;
+        } else {
+            return usage(argv[0]);
+        }
     }
-    name = argv[1 + desk + all];
+    if (at != argc - 1 || (all && (desk || rounds))) {
+        return usage(argv[0]);
+    }
+    name = argv[at];
     file = fopen(name, "rb");
     if (file == NULL) {
         perror(name);
@@ -126,5 +187,8 @@ int main(int argc, char **argv)
         return 3;
     }
     fclose(file);
-    return all ? compare_all(length) : compare_two(length, desk);
+    if (all) {
+        return compare_all(length);
+    }
+    return rounds ? compare_rounds(length, desk, count) : compare_two(length, desk);
 }

@@ -1,8 +1,9 @@
 /* Hofadiju: compares two starts of a control sheet (document 01), within document 01's limits or within
- * the quotation desk's (document 02, card 3), or all starts of a sheet together (document 02, card 1).
+ * the quotation desk's (document 02, card 3), in the end or after so many rounds (document 02, card 13),
+ * or all starts of a sheet together (document 02, card 1).
  *
  * Link with target/staticlib/libhofadiju.a, which `rt staticlib hofadiju` writes (x86-64 Linux). The
- * three functions keep no state: any number of threads may call them at the same time, each with its own
+ * five functions keep no state: any number of threads may call them at the same time, each with its own
  * slices. They allocate nothing. c/compare.c is an example.
  */
 #ifndef HOFADIJU_H
@@ -23,6 +24,12 @@ extern "C" {
 
 /* An answer slice of this many bytes always suffices for hofadiju_compare_all. */
 #define HOFADIJU_ALL_ANSWER_BYTES 6690
+
+/* An answer slice of this many bytes always suffices for hofadiju_compare_rounds. */
+#define HOFADIJU_ROUNDS_ANSWER_BYTES 6658
+
+/* An answer slice of this many bytes always suffices for hofadiju_compare_rounds_desk. */
+#define HOFADIJU_DESK_ROUNDS_ANSWER_BYTES 834
 
 /* The work slice must have at least this many numbers of 32 bits. */
 #define HOFADIJU_WORK_NUMBERS 16384
@@ -57,7 +64,7 @@ enum hofadiju_number {
     HOFADIJU_WORK_SHORT = 23        /* the work slice is too short; place 0 */
 };
 
-/* Where the numbers stand in result, where two starts are compared. What does not apply is 0. */
+/* Where the numbers stand in result, where two starts are compared in the end. What does not apply is 0. */
 enum hofadiju_result {
     HOFADIJU_VERDICT = 0, /* HOFADIJU_SAME or HOFADIJU_DIFF */
     HOFADIJU_ROUND = 1,   /* SAME: the round in which the refinement came to rest.
@@ -77,8 +84,20 @@ enum hofadiju_all_result {
 };
 #define HOFADIJU_ALL_RESULT_NUMBERS 3
 
+/* Where the numbers stand in result, where two starts are compared after so many rounds. What does not
+ * apply is 0. */
+enum hofadiju_rounds_result {
+    HOFADIJU_ROUNDS_VERDICT = 0, /* HOFADIJU_SAME, HOFADIJU_DIFF or HOFADIJU_OPEN */
+    HOFADIJU_ROUNDS_CLASSES = 1, /* the number of classes in that round */
+    HOFADIJU_ROUNDS_MEMBERS = 2, /* the number of members */
+    HOFADIJU_ROUNDS_LENGTH = 3,  /* how many bytes of the answer slice the answer takes */
+    HOFADIJU_ROUNDS_PLACE = 4    /* the place of the refusal */
+};
+#define HOFADIJU_ROUNDS_RESULT_NUMBERS 5
+
 #define HOFADIJU_SAME 0
 #define HOFADIJU_DIFF 1
+#define HOFADIJU_OPEN 2 /* only after so many rounds */
 
 /* In the answer: a step without a reply has this for the reply's target. */
 #define HOFADIJU_NO_REPLY 65535
@@ -148,6 +167,45 @@ uint32_t hofadiju_compare_desk(const uint8_t *sheet, size_t sheet_len, size_t le
  */
 uint32_t hofadiju_compare_all(const uint8_t *sheet, size_t sheet_len, uint8_t *answer, size_t answer_len,
                               uint32_t *work, size_t work_len, size_t result[3]);
+
+/* Compares the starts numbered left and right of the sheet after so many rounds, from 0; any number is
+ * allowed. The set is that of hofadiju_compare, with its limits. The verdict is
+ *   HOFADIJU_DIFF  if that round has the two starts in different classes,
+ *   HOFADIJU_SAME  if it has them in one class and the next round splits no class of the whole set,
+ *   HOFADIJU_OPEN  otherwise: the two are together, and some class of the set is still to be split. They
+ *                  may prove to behave alike or not.
+ * A larger number of rounds never turns HOFADIJU_SAME or HOFADIJU_DIFF into another verdict, and
+ * hofadiju_compare says the same. The number of classes that hofadiju_compare ends with is at least the
+ * number of classes here and at most the number of members. From the round in which the refinement comes to
+ * rest on, a larger number of rounds changes nothing and takes no longer.
+ *
+ * The pointers are as for hofadiju_compare, and result is always written whole. The answer, numbers of two
+ * bytes with the low byte first:
+ *   count of members        2 bytes
+ *   for each member, in order of store, number of threads and threads:
+ *     store                 2 bytes
+ *     count of threads      1 byte
+ *     threads               1 byte each
+ *     class                 2 bytes   of that round, numbered from 0 by first member
+ * There is no trail and no count of steps. Bytes of the answer slice beyond the length stay as they are; a
+ * refusal leaves the whole slice as it is. The work slice is used and left as by hofadiju_compare.
+ *
+ * The refusals are those of hofadiju_compare, in the same order: those of the sheet, 14, 23, 21, 22. The
+ * place of 22 is the length of this answer, which has no trail. On the stack the call takes less than
+ * 64 KiB.
+ */
+uint32_t hofadiju_compare_rounds(const uint8_t *sheet, size_t sheet_len, size_t left, size_t right,
+                                 uint64_t rounds, uint8_t *answer, size_t answer_len, uint32_t *work,
+                                 size_t work_len, size_t result[5]);
+
+/* Compares as hofadiju_compare_rounds does, within the desk's limits, which are those of
+ * hofadiju_compare_desk. 21 goes by these numbers. All else is the same.
+ *
+ * Where both functions answer, they return and write the same.
+ */
+uint32_t hofadiju_compare_rounds_desk(const uint8_t *sheet, size_t sheet_len, size_t left, size_t right,
+                                      uint64_t rounds, uint8_t *answer, size_t answer_len, uint32_t *work,
+                                      size_t work_len, size_t result[5]);
 
 #ifdef __cplusplus
 }

@@ -6,15 +6,16 @@
 //! cleared by the call; the reference also keeps its own buffers from call to call. For each sheet
 //! the two take turns, and the least time of several turns counts. A directory's `*.sheet` files form
 //! a class of their own. In classes called desk both are given the desk's limits; in classes called all
-//! starts both compare all sixteen starts of each sheet. A table of its own has these beside the
-//! comparison of two starts and of every two, all by the library.
+//! starts both compare all sixteen starts of each sheet; in those called after so many rounds both stop
+//! there. Two tables of their own have the comparison of all starts beside that of two starts and of every
+//! two, and the comparisons after so many rounds beside the whole one, all by the library.
 
 use hofadiju::{
-    compare_all_into, compare_desk_into, compare_into, Outcome, Refusal, ALL_ANSWER_BYTES, ANSWER_BYTES,
-    DESK_ANSWER_BYTES, WORK_NUMBERS,
+    compare_all_into, compare_desk_into, compare_into, compare_rounds_into, Outcome, Refusal, ALL_ANSWER_BYTES,
+    ANSWER_BYTES, DESK_ANSWER_BYTES, ROUNDS_ANSWER_BYTES, WORK_NUMBERS,
 };
 use reference::{fast::Comparer, Limits, Returned};
-use sheets::{alike_pair, draw, variants, Rng, Shape, SHAPES};
+use sheets::{alike_pair, draw, variants, Draft, Rng, Shape, SHAPES, STOP};
 use std::hint::black_box;
 use std::path::{Path, PathBuf};
 use std::time::{Duration, Instant};
@@ -23,6 +24,9 @@ use std::time::{Duration, Instant};
 const TURNS: usize = 7;
 const TURN: Duration = Duration::from_micros(200);
 
+/// The numbers of rounds after which heavy sheets and deep ones are compared.
+const ROUNDS: [u64; 4] = [0, 1, 2, 8];
+
 struct Slices {
     answer: Vec<u8>,
     work: Vec<u32>,
@@ -30,12 +34,13 @@ struct Slices {
 
 type CompareInto = fn(&[u8], usize, usize, &mut [u8], &mut [u32]) -> Result<Outcome, Refusal>;
 
-/// One of the library's three calls: of two starts, with the reference's limits and the length of the
-/// answer slice, or of all starts.
+/// One of the library's calls: of two starts, with the reference's limits and the length of the answer
+/// slice, of all starts, or of two starts after so many rounds.
 #[derive(Clone, Copy)]
 enum Call {
     Two { function: CompareInto, limits: Limits, answer: usize },
     All,
+    After { rounds: u64 },
 }
 
 const DOCUMENT: Call = Call::Two { function: compare_into, limits: Limits::DOCUMENT, answer: ANSWER_BYTES };
@@ -57,6 +62,18 @@ impl Class {
     fn all_starts(self) -> Class {
         Class { name: format!("{}, all starts", self.name), call: Call::All, sheets: self.sheets }
     }
+
+    /// The same sheets for the call after so many rounds.
+    fn after(&self, rounds: u64) -> Class {
+        let plural = if rounds == 1 { "" } else { "s" };
+        let name = format!("{}, after {rounds} round{plural}", self.name);
+        Class { name, call: Call::After { rounds }, sheets: self.sheets.clone() }
+    }
+
+    /// Whether each sheet has rows of its own.
+    fn by_sheet(&self) -> bool {
+        self.sheets.len() <= 40
+    }
 }
 
 /// The least time of one call of each, in nanoseconds, and whether the sheet was refused.
@@ -70,6 +87,7 @@ fn library(call: Call, sheet: &[u8], slices: &mut Slices) -> Result<usize, u32> 
     match call {
         Call::Two { function, answer, .. } => two_starts(function, answer, sheet, (0, 1), slices),
         Call::All => all_starts(sheet, slices),
+        Call::After { rounds } => after_rounds(rounds, sheet, slices),
     }
 }
 
@@ -89,11 +107,21 @@ fn all_starts(sheet: &[u8], slices: &mut Slices) -> Result<usize, u32> {
     outcome.map(|outcome| outcome.length).map_err(|refusal| refusal.number())
 }
 
+fn after_rounds(rounds: u64, sheet: &[u8], slices: &mut Slices) -> Result<usize, u32> {
+    let answer = &mut slices.answer[..ROUNDS_ANSWER_BYTES];
+    let outcome = compare_rounds_into(sheet, 0, 1, rounds, answer, &mut slices.work);
+    outcome.map(|outcome| outcome.length).map_err(|refusal| refusal.number())
+}
+
 fn peer(call: Call, sheet: &[u8], slices: &mut Slices, comparer: &mut Comparer) -> Result<usize, u32> {
     let Slices { answer: bytes, work } = slices;
     match call {
         Call::Two { limits, answer, .. } => length(comparer.compare(limits, sheet, 0, 1, &mut bytes[..answer], work)),
         Call::All => length(comparer.compare_all(Limits::DOCUMENT, sheet, &mut bytes[..ALL_ANSWER_BYTES], work)),
+        Call::After { rounds } => {
+            let answer = &mut bytes[..ROUNDS_ANSWER_BYTES];
+            length(comparer.compare_rounds(Limits::DOCUMENT, sheet, (0, 1), rounds, answer, work))
+        }
     }
 }
 
@@ -160,23 +188,6 @@ fn beside(sheet: &[u8], slices: &mut Slices) -> Beside {
     least
 }
 
-/// The rows of a class and, where it has few sheets, of each of them.
-fn beside_rows(class: &Class, slices: &mut Slices) -> String {
-    let sheets = class.sheets.iter().filter(|(_, sheet)| all_starts(sheet, slices).is_ok());
-    let sheets: Vec<&(String, Vec<u8>)> = sheets.collect();
-    let measured: Vec<Beside> = sheets.iter().map(|(_, sheet)| beside(sheet, slices)).collect();
-    if measured.is_empty() {
-        return String::new();
-    }
-    let mut rows = beside_row(&class.name, &measured);
-    if class.sheets.len() <= 40 {
-        for ((name, _), m) in sheets.iter().zip(&measured) {
-            rows += &beside_row(name, std::slice::from_ref(m));
-        }
-    }
-    rows
-}
-
 fn beside_row(name: &str, measured: &[Beside]) -> String {
     let all = |of: fn(&Beside) -> f64| median(measured.iter().map(of).collect());
     format!(
@@ -189,6 +200,54 @@ fn beside_row(name: &str, measured: &[Beside]) -> String {
         all(|m| m.all / (m.every_two / 120.0)),
         all(|m| m.all / m.every_two),
     )
+}
+
+/// The least times by the library of the whole comparison and of those after so many rounds.
+struct Bounded {
+    whole: f64,
+    after: [f64; ROUNDS.len()],
+}
+
+fn bounded(sheet: &[u8], slices: &mut Slices) -> Bounded {
+    let calls = [DOCUMENT].into_iter().chain(ROUNDS.map(|rounds| Call::After { rounds }));
+    let mut least: Vec<(Call, usize, f64)> =
+        calls.map(|call| (call, calls_in_a_turn(time(1, || library(call, sheet, slices))), f64::MAX)).collect();
+    for _ in 0..TURNS {
+        for (call, calls, least) in &mut least {
+            *least = least.min(time(*calls, || library(*call, sheet, slices)));
+        }
+    }
+    Bounded { whole: least[0].2, after: std::array::from_fn(|i| least[i + 1].2) }
+}
+
+fn bounded_row(name: &str, measured: &[Bounded]) -> String {
+    let middle = |of: &dyn Fn(&Bounded) -> f64| median(measured.iter().map(of).collect());
+    let times = (0..ROUNDS.len()).map(|i| micros(middle(&|m| m.after[i])));
+    let parts = (0..ROUNDS.len()).map(|i| format!("{:.2}", middle(&|m| m.after[i] / m.whole)));
+    let cells: Vec<String> = times.chain(parts).collect();
+    format!("| {name} | {} | {} | {} |\n", measured.len(), micros(middle(&|m| m.whole)), cells.join(" | "))
+}
+
+/// The rows of a class's sheets that are not refused and, where it has few, of each of them.
+fn rows<T>(
+    class: &Class,
+    slices: &mut Slices,
+    measure: fn(&[u8], &mut Slices) -> T,
+    row: fn(&str, &[T]) -> String,
+) -> String {
+    let sheets = class.sheets.iter().filter(|(_, sheet)| library(class.call, sheet, slices).is_ok());
+    let sheets: Vec<&(String, Vec<u8>)> = sheets.collect();
+    let measured: Vec<T> = sheets.iter().map(|(_, sheet)| measure(sheet, slices)).collect();
+    if measured.is_empty() {
+        return String::new();
+    }
+    let mut rows = row(&class.name, &measured);
+    if class.by_sheet() {
+        for ((name, _), m) in sheets.iter().zip(&measured) {
+            rows += &row(name, std::slice::from_ref(m));
+        }
+    }
+    rows
 }
 
 fn median(mut numbers: Vec<f64>) -> f64 {
@@ -209,7 +268,7 @@ fn micros(nanos: f64) -> String {
     }
 }
 
-fn drawn(name: &str, count: usize, seed: u64, shape: &Shape, make: fn(&Shape, &mut Rng) -> sheets::Draft) -> Class {
+fn drawn(name: &str, count: usize, seed: u64, shape: &Shape, make: fn(&Shape, &mut Rng) -> Draft) -> Class {
     let mut rng = Rng::new(seed);
     let sheets = (0..count).map(|i| (format!("{name} {i}"), make(shape, &mut rng).bytes())).collect();
     Class { name: name.to_string(), call: DOCUMENT, sheets }
@@ -225,44 +284,34 @@ fn found(folder: &Path) -> Class {
     Class { name: name(folder), call: DOCUMENT, sheets }
 }
 
+/// So many threads in a chain of so many asks, against the same with one thread an ask further: a round for
+/// each ask of each thread.
+fn deep() -> Class {
+    let sheets = [(1, 63), (2, 30), (3, 12), (4, 8), (8, 4)].map(|(threads, asks)| {
+        let mut draft = Draft { nodes: vec![(STOP, 0, 0)], ..Draft::default() };
+        let first = draft.chain(asks, 0, 0);
+        let further = [vec![first; threads - 1], vec![first - 1]].concat();
+        draft.starts = vec![(0, vec![first; threads]), (0, further)];
+        let plural = if threads == 1 { "" } else { "s" };
+        (format!("{threads} thread{plural}, {asks} asks"), draft.bytes())
+    });
+    Class { name: "deep chains".to_string(), call: DOCUMENT, sheets: sheets.to_vec() }
+}
+
 fn shape(name: &str) -> &'static Shape {
     SHAPES.iter().find(|shape| shape.name == name).expect("a shape of this name")
 }
 
-fn main() {
-    let here = Path::new(env!("CARGO_MANIFEST_DIR"));
-    let random = [
-        drawn("small random", 400, 1, shape("small"), draw),
-        drawn("medium random", 200, 2, shape("medium"), draw),
-        drawn("large random", 100, 3, shape("large"), draw),
-        drawn("alike pairs", 200, 4, shape("medium"), alike_pair),
-    ];
-    let desk: Vec<Class> = random.iter().map(Class::desk).collect();
-    let sixteen = |name: &str| shape(name).with_starts(16, 16);
-    let together = [
-        drawn("small random", 200, 5, &sixteen("small"), draw),
-        drawn("medium random", 100, 6, &sixteen("medium"), draw),
-        drawn("large random", 100, 7, &sixteen("large"), draw),
-        drawn("medium variants", 100, 8, &sixteen("medium"), variants),
-        found(&here.join("benches/sixteen")),
-    ];
-    let mut classes = vec![found(&here.join("../samples"))];
-    classes.extend(random);
-    classes.push(found(&here.join("benches/worst")));
-    classes.extend(desk);
-    classes.extend(together.map(Class::all_starts));
-    let words = std::env::args().skip(1).filter(|word| !word.starts_with('-'));
-    classes.extend(words.map(|word| found(Path::new(&word))));
-
-    let mut slices = Slices { answer: vec![0; ANSWER_BYTES], work: vec![0; WORK_NUMBERS] };
+/// The rows of every class, library beside reference, and then those of single sheets.
+fn print_ratios<'a>(classes: impl Iterator<Item = &'a Class>, slices: &mut Slices) {
     let mut comparer = Comparer::new();
     let mut single = String::new();
     println!("Times in microseconds; ratio is library / reference.\n");
     println!("| Sheets | Count | Refused | Ratio, median | Library, median | Reference, median | Library, worst | Reference, worst |");
     println!("|---|---|---|---|---|---|---|---|");
-    for class in &classes {
+    for class in classes {
         let measured: Vec<Measured> =
-            class.sheets.iter().map(|(_, sheet)| measure(class.call, sheet, &mut slices, &mut comparer)).collect();
+            class.sheets.iter().map(|(_, sheet)| measure(class.call, sheet, slices, &mut comparer)).collect();
         if measured.is_empty() {
             continue;
         }
@@ -279,7 +328,8 @@ fn main() {
             micros(most(|m| m.library)),
             micros(most(|m| m.peer)),
         );
-        if class.sheets.len() <= 40 {
+        // After so many rounds single sheets have a table of their own.
+        if class.by_sheet() && !matches!(class.call, Call::After { .. }) {
             for ((name, _), m) in class.sheets.iter().zip(&measured) {
                 let (library, peer) = (micros(m.library), micros(m.peer));
                 single +=
@@ -288,10 +338,45 @@ fn main() {
         }
     }
     println!("\n| Sheet | Ratio | Library | Reference |\n|---|---|---|---|\n{single}");
+}
+
+fn main() {
+    let here = Path::new(env!("CARGO_MANIFEST_DIR"));
+    let samples = [found(&here.join("../samples"))];
+    let random = [
+        drawn("small random", 400, 1, shape("small"), draw),
+        drawn("medium random", 200, 2, shape("medium"), draw),
+        drawn("large random", 100, 3, shape("large"), draw),
+        drawn("alike pairs", 200, 4, shape("medium"), alike_pair),
+    ];
+    let mut heavy = vec![found(&here.join("benches/worst")), deep()];
+    let words = std::env::args().skip(1).filter(|word| !word.starts_with('-'));
+    heavy.extend(words.map(|word| found(Path::new(&word))));
+    let desk: Vec<Class> = random.iter().map(Class::desk).collect();
+    let sixteen = |name: &str| shape(name).with_starts(16, 16);
+    let together = [
+        drawn("small random", 200, 5, &sixteen("small"), draw),
+        drawn("medium random", 100, 6, &sixteen("medium"), draw),
+        drawn("large random", 100, 7, &sixteen("large"), draw),
+        drawn("medium variants", 100, 8, &sixteen("medium"), variants),
+        found(&here.join("benches/sixteen")),
+    ]
+    .map(Class::all_starts);
+    let after: Vec<Class> = heavy.iter().flat_map(|class| ROUNDS.map(|rounds| class.after(rounds))).collect();
+
+    let mut slices = Slices { answer: vec![0; ANSWER_BYTES], work: vec![0; WORK_NUMBERS] };
+    let classes = [&samples[..], &random, &heavy, &desk, &together, &after];
+    print_ratios(classes.into_iter().flatten(), &mut slices);
     println!("Sixteen starts by the library, sheets that are not refused; medians.\n");
     println!("| Sheets | Count | All starts | Starts 0 and 1 | Every two, 120 calls | All / starts 0 and 1 | All / mean of two | All / every two |");
     println!("|---|---|---|---|---|---|---|---|");
-    for class in classes.iter().filter(|class| matches!(class.call, Call::All)) {
-        print!("{}", beside_rows(class, &mut slices));
+    for class in &together {
+        print!("{}", rows(class, &mut slices, beside, beside_row));
+    }
+    println!("\nAfter so many rounds by the library, beside the whole call, sheets that are not refused; medians.\n");
+    println!("| Sheets | Count | Whole | 0 rounds | 1 round | 2 rounds | 8 rounds | 0 / whole | 1 / whole | 2 / whole | 8 / whole |");
+    println!("|---|---|---|---|---|---|---|---|---|---|---|");
+    for class in &heavy {
+        print!("{}", rows(class, &mut slices, bounded, bounded_row));
     }
 }

@@ -10,6 +10,9 @@
 //!
 //! [`compare_all`] compares all starts of a sheet together and groups those that behave alike.
 //!
+//! [`compare_rounds`] and [`compare_rounds_desk`] stop after so many rounds and say what is known of two
+//! starts by then; it may still be open.
+//!
 //! This crate is a thin safe wrapper around a static library that is written and proved in Rattle. It
 //! has no dependencies. Calls share no state, so any number of threads may call at the same time.
 //!
@@ -47,10 +50,12 @@
 #![warn(missing_docs)]
 
 mod grouping;
+mod partition;
 mod refusal;
 mod report;
 
 pub use grouping::Grouping;
+pub use partition::{Partition, RoundsVerdict};
 pub use refusal::{Reason, Refusal};
 pub use report::{Member, Report, Side, Step, Verdict};
 
@@ -62,6 +67,12 @@ pub const DESK_ANSWER_BYTES: usize = 1_277;
 
 /// An answer slice of this many bytes always suffices for [`compare_all_into`].
 pub const ALL_ANSWER_BYTES: usize = 6_690;
+
+/// An answer slice of this many bytes always suffices for [`compare_rounds_into`].
+pub const ROUNDS_ANSWER_BYTES: usize = 6_658;
+
+/// An answer slice of this many bytes always suffices for [`compare_rounds_desk_into`].
+pub const DESK_ROUNDS_ANSWER_BYTES: usize = 834;
 
 /// The work slice must have at least this many numbers.
 pub const WORK_NUMBERS: usize = 16_384;
@@ -103,11 +114,41 @@ extern "C" {
         work_len: usize,
         result: *mut [usize; 3],
     ) -> u32;
+
+    fn hofadiju_compare_rounds(
+        sheet: *const u8,
+        sheet_len: usize,
+        left: usize,
+        right: usize,
+        rounds: u64,
+        answer: *mut u8,
+        answer_len: usize,
+        work: *mut u32,
+        work_len: usize,
+        result: *mut [usize; 5],
+    ) -> u32;
+
+    fn hofadiju_compare_rounds_desk(
+        sheet: *const u8,
+        sheet_len: usize,
+        left: usize,
+        right: usize,
+        rounds: u64,
+        answer: *mut u8,
+        answer_len: usize,
+        work: *mut u32,
+        work_len: usize,
+        result: *mut [usize; 5],
+    ) -> u32;
 }
 
-/// One of the library's two functions that compare two starts.
+/// One of the library's two functions that compare two starts in the end.
 type Call =
     unsafe extern "C" fn(*const u8, usize, usize, usize, *mut u8, usize, *mut u32, usize, *mut [usize; 6]) -> u32;
+
+/// One of the library's two functions that compare two starts after so many rounds.
+type RoundsCall =
+    unsafe extern "C" fn(*const u8, usize, usize, usize, u64, *mut u8, usize, *mut u32, usize, *mut [usize; 5]) -> u32;
 
 /// What [`compare_into`] and [`compare_desk_into`] give beside the bytes in the answer slice.
 #[derive(Clone, Copy, Debug, PartialEq, Eq, Hash)]
@@ -386,5 +427,189 @@ impl AllOutcome {
     /// those bytes are not one.
     pub fn grouping(&self, answer: &[u8]) -> Option<Grouping> {
         grouping::from_bytes(self, answer.get(..self.length)?)
+    }
+}
+
+/// What [`compare_rounds_into`] and [`compare_rounds_desk_into`] give beside the bytes in the answer slice.
+#[derive(Clone, Copy, Debug, PartialEq, Eq, Hash)]
+pub struct RoundsOutcome {
+    /// What is known of the two starts.
+    pub verdict: RoundsVerdict,
+    /// The number of classes in that round.
+    pub classes: usize,
+    /// The number of members.
+    pub members: usize,
+    /// How many bytes of the answer slice the answer takes.
+    pub length: usize,
+}
+
+/// Compares the starts `left` and `right` of a sheet after so many rounds, from 0; any number is allowed.
+/// The set of configurations is that of [`compare`], with its limits.
+///
+/// The verdict is [`RoundsVerdict::Diff`] if that round has the starts in different classes,
+/// [`RoundsVerdict::Same`] if they are together and the next round splits no class of the whole set, and
+/// [`RoundsVerdict::Open`] otherwise. A larger number of rounds never turns `Same` or `Diff` into another
+/// verdict, and [`compare`] says the same. From the round on in which the refinement comes to rest, the
+/// classes are those of [`compare`].
+///
+/// # Example
+///
+/// A process of three steps and one of two are told apart by the third round.
+///
+/// ```
+/// use hofadiju::{compare_rounds, RoundsVerdict};
+///
+/// let mut sheet: Vec<u8> = Vec::new();
+/// sheet.push(0); // no facts
+/// sheet.push(0); // no rules
+/// sheet.push(4); // four nodes
+/// sheet.extend_from_slice(&[0, 0, 0, 0, 0]); // node 0: stop
+/// sheet.extend_from_slice(&[2, 0, 0, 0, 0]); // node 1: ask nothing, then node 0
+/// sheet.extend_from_slice(&[2, 0, 0, 1, 0]); // node 2: ask nothing, then node 1
+/// sheet.extend_from_slice(&[2, 0, 0, 2, 0]); // node 3: ask nothing, then node 2
+/// sheet.push(2); // two starts at the empty store
+/// sheet.extend_from_slice(&[0, 0, 1, 3]); // start 0: node 3
+/// sheet.extend_from_slice(&[0, 0, 1, 2]); // start 1: node 2
+///
+/// let partition = compare_rounds(&sheet, 0, 1, 1)?;
+/// assert_eq!(partition.verdict, RoundsVerdict::Open);
+/// assert_eq!(partition.classes, 2); // what has stopped, and what has not
+/// assert_eq!(partition.to_string(), "OPEN 2 4\n0 0 0 -\n1 0 1 1\n2 0 1 2\n3 0 1 3\n");
+///
+/// assert_eq!(compare_rounds(&sheet, 0, 1, 2)?.verdict, RoundsVerdict::Open);
+/// assert_eq!(compare_rounds(&sheet, 0, 1, 3)?.verdict, RoundsVerdict::Diff);
+/// assert_eq!(compare_rounds(&sheet, 0, 1, u64::MAX)?.classes, 4);
+/// # Ok::<(), hofadiju::Refusal>(())
+/// ```
+///
+/// # Errors
+///
+/// As [`compare`].
+pub fn compare_rounds(sheet: &[u8], left: usize, right: usize, rounds: u64) -> Result<Partition, Refusal> {
+    partition_by(hofadiju_compare_rounds, ROUNDS_ANSWER_BYTES, sheet, (left, right), rounds)
+}
+
+/// Compares as [`compare_rounds`] does, within the limits of the quotation desk, which are those of
+/// [`compare_desk`]. Where both functions answer, the answers are the same.
+///
+/// # Errors
+///
+/// As [`compare_desk`].
+pub fn compare_rounds_desk(sheet: &[u8], left: usize, right: usize, rounds: u64) -> Result<Partition, Refusal> {
+    partition_by(hofadiju_compare_rounds_desk, DESK_ROUNDS_ANSWER_BYTES, sheet, (left, right), rounds)
+}
+
+/// The partition of a call for which an answer slice of so many bytes suffices.
+fn partition_by(
+    call: RoundsCall,
+    room: usize,
+    sheet: &[u8],
+    starts: (usize, usize),
+    rounds: u64,
+) -> Result<Partition, Refusal> {
+    let mut answer = vec![0; room];
+    let mut work = vec![0; WORK_NUMBERS];
+    let outcome = rounds_outcome_by(call, sheet, starts, rounds, &mut answer, &mut work)?;
+    Ok(outcome.partition(&answer).expect("the library writes the answer's layout"))
+}
+
+/// Compares as [`compare_rounds`] does, and allocates nothing.
+///
+/// `answer` and `work` are used as by [`compare_into`], and `work` must be as long as there.
+/// [`ROUNDS_ANSWER_BYTES`] bytes of `answer` always suffice. [`RoundsOutcome::partition`] takes the bytes
+/// apart.
+///
+/// # Example
+///
+/// ```
+/// use hofadiju::{compare_rounds, compare_rounds_into, ROUNDS_ANSWER_BYTES, WORK_NUMBERS};
+///
+/// // No facts, no rules, one node, a stop; two starts without threads.
+/// let sheet = [0, 0, 1, 0, 0, 0, 0, 0, 2, 0, 0, 0, 0, 0, 0];
+/// let mut answer = [0; ROUNDS_ANSWER_BYTES];
+/// let mut work = [0; WORK_NUMBERS];
+/// let outcome = compare_rounds_into(&sheet, 0, 1, 0, &mut answer, &mut work)?;
+/// // One member: its count, store, number of threads and class.
+/// assert_eq!(answer[..outcome.length], [1, 0, 0, 0, 0, 0, 0]);
+/// assert_eq!(outcome.partition(&answer), Some(compare_rounds(&sheet, 0, 1, 0)?));
+/// # Ok::<(), hofadiju::Refusal>(())
+/// ```
+///
+/// # Errors
+///
+/// As [`compare_into`]. The place of [`Reason::AnswerShort`] is the length of this answer, which has no
+/// trail.
+pub fn compare_rounds_into(
+    sheet: &[u8],
+    left: usize,
+    right: usize,
+    rounds: u64,
+    answer: &mut [u8],
+    work: &mut [u32],
+) -> Result<RoundsOutcome, Refusal> {
+    rounds_outcome_by(hofadiju_compare_rounds, sheet, (left, right), rounds, answer, work)
+}
+
+/// Compares as [`compare_rounds_desk`] does, and allocates nothing.
+///
+/// `answer` and `work` are used as by [`compare_into`], and `work` must be as long as there.
+/// [`DESK_ROUNDS_ANSWER_BYTES`] bytes of `answer` always suffice.
+///
+/// # Errors
+///
+/// As [`compare_desk_into`]. The place of [`Reason::AnswerShort`] is the length of this answer, which has no
+/// trail.
+pub fn compare_rounds_desk_into(
+    sheet: &[u8],
+    left: usize,
+    right: usize,
+    rounds: u64,
+    answer: &mut [u8],
+    work: &mut [u32],
+) -> Result<RoundsOutcome, Refusal> {
+    rounds_outcome_by(hofadiju_compare_rounds_desk, sheet, (left, right), rounds, answer, work)
+}
+
+/// What one of the library's functions gives on these slices.
+fn rounds_outcome_by(
+    call: RoundsCall,
+    sheet: &[u8],
+    (left, right): (usize, usize),
+    rounds: u64,
+    answer: &mut [u8],
+    work: &mut [u32],
+) -> Result<RoundsOutcome, Refusal> {
+    let mut result = [0; 5];
+    // SAFETY: as in `outcome_by`; these functions too read `sheet`, write within `answer`, `work` and
+    // `result`, and keep no pointer.
+    let number = unsafe {
+        call(
+            sheet.as_ptr(),
+            sheet.len(),
+            left,
+            right,
+            rounds,
+            answer.as_mut_ptr(),
+            answer.len(),
+            work.as_mut_ptr(),
+            work.len(),
+            &mut result,
+        )
+    };
+    let [verdict, classes, members, length, place] = result;
+    answered(number, place)?;
+    let verdict = match verdict {
+        0 => RoundsVerdict::Same,
+        1 => RoundsVerdict::Diff,
+        _ => RoundsVerdict::Open,
+    };
+    Ok(RoundsOutcome { verdict, classes, members, length })
+}
+
+impl RoundsOutcome {
+    /// The partition that stands in the first [`RoundsOutcome::length`] bytes of `answer`, or `None` where
+    /// those bytes are not one.
+    pub fn partition(&self, answer: &[u8]) -> Option<Partition> {
+        partition::from_bytes(self, answer.get(..self.length)?)
     }
 }

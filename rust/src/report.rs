@@ -28,7 +28,8 @@ pub struct Member {
     pub store: u16,
     /// The threads as node numbers, ascending, repeats kept; at most eight.
     pub threads: Vec<u8>,
-    /// Members behave alike exactly when they have the same class.
+    /// In a report and a grouping members behave alike exactly when they have the same class. In a
+    /// [`Partition`](crate::Partition) it is the class of that round.
     pub class: u16,
 }
 

@@ -8,7 +8,7 @@ use hofadiju::{
     compare, compare_all, compare_into, Grouping, Member, Reason, Refusal, Report, Verdict, ANSWER_BYTES, WORK_NUMBERS,
 };
 use reference::{plain, Judgement};
-use sheets::{alike_pair, damage, draw, variants, Draft, Rng, Shape, ASK, BOTH, EITHER, SHAPES, STOP, TELL};
+use sheets::{alike_pair, damage, draw, sheet_k, variants, Draft, Rng, Shape, ASK, BOTH, EITHER, SHAPES, STOP, TELL};
 use std::collections::{BTreeMap, BTreeSet};
 use std::path::Path;
 
@@ -19,23 +19,6 @@ fn bare(starts: &[&[u8]]) -> Draft {
 
 fn at_store_0(starts: &[&[u8]]) -> Vec<(u16, Vec<u8>)> {
     starts.iter().map(|threads| (0, threads.to_vec())).collect()
-}
-
-/// Sheet K of document 01 with these starts.
-fn sheet_k(starts: &[(u16, &[u8])]) -> Draft {
-    let nodes = vec![
-        (STOP, 0, 0),
-        (TELL, 0, 0),
-        (ASK, 1, 1),
-        (ASK, 2, 1),
-        (EITHER, 2, 3),
-        (TELL, 4, 0),
-        (ASK, 2, 5),
-        (EITHER, 2, 6),
-        (BOTH, 1, 1),
-    ];
-    let starts = starts.iter().map(|(store, threads)| (*store, threads.to_vec())).collect();
-    Draft { facts: 3, rules: vec![(2, 1)], nodes, starts }
 }
 
 /// A sheet's grouping, after its call is held to the reference with slices of many lengths.

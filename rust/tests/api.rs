@@ -1,27 +1,17 @@
 //! The crate's own functions: values, texts, and document 01's known sheets.
 
 use hofadiju::{
-    compare, compare_all, compare_all_into, compare_desk, compare_desk_into, compare_into, AllOutcome, Outcome, Reason,
-    Refusal, Report, Side, Verdict, ALL_ANSWER_BYTES, ANSWER_BYTES, DESK_ANSWER_BYTES, WORK_NUMBERS,
+    compare, compare_all, compare_all_into, compare_desk, compare_desk_into, compare_into, compare_rounds,
+    compare_rounds_desk, compare_rounds_desk_into, compare_rounds_into, AllOutcome, Outcome, Partition, Reason,
+    Refusal, Report, RoundsOutcome, RoundsVerdict, Side, Verdict, ALL_ANSWER_BYTES, ANSWER_BYTES, DESK_ANSWER_BYTES,
+    DESK_ROUNDS_ANSWER_BYTES, ROUNDS_ANSWER_BYTES, WORK_NUMBERS,
 };
-use sheets::{alike_pair, variants, Draft, Rng, ASK, BOTH, EITHER, SHAPES, STOP, TELL};
+use sheets::{alike_pair, variants, Draft, Rng, ASK, SHAPES, STOP};
 use std::path::Path;
 
 /// Sheet K of document 01 with these two starts.
 fn sheet_k(left: (u16, &[u8]), right: (u16, &[u8])) -> Vec<u8> {
-    let nodes = vec![
-        (STOP, 0, 0),
-        (TELL, 0, 0),
-        (ASK, 1, 1),
-        (ASK, 2, 1),
-        (EITHER, 2, 3),
-        (TELL, 4, 0),
-        (ASK, 2, 5),
-        (EITHER, 2, 6),
-        (BOTH, 1, 1),
-    ];
-    let starts = vec![(left.0, left.1.to_vec()), (right.0, right.1.to_vec())];
-    Draft { facts: 3, rules: vec![(2, 1)], nodes, starts }.bytes()
+    sheets::sheet_k(&[left, right]).bytes()
 }
 
 fn report_k(left: (u16, &[u8]), right: (u16, &[u8])) -> Report {
@@ -94,6 +84,15 @@ fn samples() {
                 assert_eq!((grouping.groups(), grouping.members), (groups, report.members), "{}", path.display());
             }
             (all, two) => assert_eq!(all.err(), two.err(), "{}", path.display()),
+        }
+        // After enough rounds, and at the desk too, the verdict and the members are the report's.
+        let partition = compare_rounds(&sheet, 0, 1, 100);
+        assert_eq!(partition, compare_rounds_desk(&sheet, 0, 1, 100), "{}", path.display());
+        match (partition, compare(&sheet, 0, 1)) {
+            (Ok(Partition { verdict, members, .. }), Ok(report)) => {
+                assert_eq!((verdict.settled(), members), (Some(report.verdict), report.members), "{}", path.display());
+            }
+            (after, end) => assert_eq!(after.err(), end.err(), "{}", path.display()),
         }
         held += 1;
     }
@@ -206,6 +205,68 @@ fn bytes_that_are_no_grouping() {
     }
 }
 
+type CompareRounds = fn(&[u8], usize, usize, u64) -> Result<Partition, Refusal>;
+type CompareRoundsInto = fn(&[u8], usize, usize, u64, &mut [u8], &mut [u32]) -> Result<RoundsOutcome, Refusal>;
+
+#[test]
+fn the_two_functions_after_rounds_agree() {
+    functions_after_rounds_agree(compare_rounds, compare_rounds_into, ROUNDS_ANSWER_BYTES);
+    functions_after_rounds_agree(compare_rounds_desk, compare_rounds_desk_into, DESK_ROUNDS_ANSWER_BYTES);
+}
+
+fn functions_after_rounds_agree(compare: CompareRounds, compare_into: CompareRoundsInto, room: usize) {
+    let mut rng = Rng::new(34);
+    let mut answer = vec![0xEE; room];
+    let mut work = vec![0xEEEE; WORK_NUMBERS];
+    let mut verdicts = [0; 3];
+    for i in 0..2_000 {
+        let bytes = alike_pair(&SHAPES[i % SHAPES.len()], &mut rng).bytes();
+        let rounds = rng.pick(&[0, 1, 2, u64::MAX]);
+        let outcome = compare_into(&bytes, 0, 1, rounds, &mut answer, &mut work);
+        match (compare(&bytes, 0, 1, rounds), outcome) {
+            (Ok(partition), Ok(outcome)) => {
+                assert_eq!(outcome.partition(&answer).as_ref(), Some(&partition));
+                let RoundsOutcome { verdict, classes, members, length } = outcome;
+                assert_eq!(outcome.partition(&answer[..length - 1]), None);
+                for (members, length) in [(members, length - 1), (members - 1, length), (members + 1, length)] {
+                    assert_eq!(RoundsOutcome { verdict, classes, members, length }.partition(&answer), None);
+                }
+                assert_eq!((verdict, classes), (partition.verdict, partition.classes));
+                let threads: usize = partition.members.iter().map(|member| member.threads.len()).sum();
+                assert_eq!((members, length), (partition.members.len(), 2 + 5 * members + threads));
+                let text = partition.to_string();
+                assert!(text.starts_with(&format!("{verdict} {classes} {members}\n")) && text.ends_with('\n'));
+                assert_eq!(text.lines().count(), 1 + members);
+                verdicts[verdict as usize] += 1;
+            }
+            (Err(refusal), Err(other)) => assert_eq!(refusal, other),
+            _ => panic!("one of the two is refused: {bytes:?}"),
+        }
+    }
+    assert!(verdicts.iter().all(|&count| count > 50), "{verdicts:?}");
+}
+
+#[test]
+fn bytes_that_are_no_partition() {
+    let partition = |members: usize, bytes: &[u8]| {
+        RoundsOutcome { verdict: RoundsVerdict::Open, classes: 1, members, length: bytes.len() }.partition(bytes)
+    };
+    assert!(partition(0, &[0, 0]).is_some());
+    assert!(partition(1, &[1, 0, 0, 0, 0, 0, 0]).is_some());
+    // A count of steps, a byte too few, and another number of members.
+    assert_eq!(partition(1, &[1, 0, 0, 0, 0, 0, 0, 0, 0]), None);
+    assert_eq!(partition(1, &[1, 0, 0, 0, 0, 0]), None);
+    assert_eq!(partition(2, &[1, 0, 0, 0, 0, 0, 0]), None);
+    assert_eq!(partition(0, &[]), None);
+}
+
+#[test]
+fn verdicts_after_rounds_have_texts() {
+    let all = [RoundsVerdict::Same, RoundsVerdict::Diff, RoundsVerdict::Open];
+    assert_eq!(all.map(|verdict| verdict.to_string()), ["SAME", "DIFF", "OPEN"]);
+    assert_eq!(all.map(RoundsVerdict::settled), [Some(Verdict::Same), Some(Verdict::Diff), None]);
+}
+
 #[test]
 fn the_desk_reports_the_same_or_is_too_large() {
     let mut rng = Rng::new(32);
@@ -240,6 +301,12 @@ fn short_slices() {
     assert_eq!(refusal, Refusal { reason: Reason::AnswerShort, place: 40 });
     let refusal = compare_all_into(&bytes, &mut [], &mut []).unwrap_err();
     assert_eq!(refusal, Refusal { reason: Reason::WorkShort, place: 0 });
+    for compare_rounds_into in [compare_rounds_into, compare_rounds_desk_into] {
+        let refusal = compare_rounds_into(&bytes, 0, 1, 0, &mut [], &mut work).unwrap_err();
+        assert_eq!(refusal, Refusal { reason: Reason::AnswerShort, place: 36 });
+        let refusal = compare_rounds_into(&bytes, 0, 1, 0, &mut [], &mut []).unwrap_err();
+        assert_eq!(refusal, Refusal { reason: Reason::WorkShort, place: 0 });
+    }
 }
 
 #[test]
@@ -247,12 +314,14 @@ fn threads_call_at_the_same_time() {
     let sheet = sheet_k((0, &[2]), (0, &[7]));
     let expected = compare(&sheet, 0, 1).unwrap();
     let grouping = compare_all(&sheet).unwrap();
+    let partition = compare_rounds(&sheet, 0, 1, 1).unwrap();
     std::thread::scope(|scope| {
         for _ in 0..4 {
             scope.spawn(|| {
                 for _ in 0..200 {
                     assert_eq!(compare(&sheet, 0, 1).as_ref(), Ok(&expected));
                     assert_eq!(compare_all(&sheet).as_ref(), Ok(&grouping));
+                    assert_eq!(compare_rounds(&sheet, 0, 1, 1).as_ref(), Ok(&partition));
                 }
             });
         }

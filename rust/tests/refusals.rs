@@ -1,5 +1,6 @@
 //! Each refusal of document 01, its condition just met and just not met. The desk's own numbers for 21
-//! are in desk.rs, the limits over all starts in all_starts.rs.
+//! are in desk.rs, the limits over all starts in all_starts.rs, and slices after so many rounds in
+//! rounds_bound.rs.
 
 mod common;
 
@@ -32,12 +33,17 @@ fn harnesses() -> [Harness; 2] {
     [Harness::new(1), Harness::desk(1)]
 }
 
-/// The desk's call and that of all starts are held too: they give the same, or 21 beside a report.
+/// The desk's call and that of all starts are held too: they give the same, or 21 beside a report. So are
+/// the calls after so many rounds, which give what the calls with their limits do.
 fn number_of(bytes: &[u8]) -> (u32, usize) {
     let [number, desk] = harnesses().map(|mut harness| harness.number(bytes));
     let all = Harness::all(1).number(bytes);
     for other in [desk, all] {
         assert!(other == number || other == (21, 0) && number == (0, 0), "{other:?} {number:?} {bytes:?}");
+    }
+    for rounds in [0, u64::MAX] {
+        let after = [Harness::rounds(1), Harness::rounds_desk(1)].map(|mut harness| harness.number(bytes, rounds));
+        assert_eq!(after, [number, desk], "{rounds} rounds, {bytes:?}");
     }
     number
 }

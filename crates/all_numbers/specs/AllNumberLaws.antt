@@ -1,5 +1,5 @@
 -- The numbers of the library's answer are those of the outcome; no refusal has the number 0.
-use mathlib.Core.Path.{_≡_, refl, sym, ap, _∙_}
+use mathlib.Core.Path.{_≡_, refl, sym, ap}
 use mathlib.Core.List.{List, [], _∷_}
 use Prim.Native.Nat.{ℕ, _≤_}
 use lib.ListN.{length}
@@ -8,7 +8,7 @@ use Rattle.sheet_laws.specs.RefusalNumbers.{sheet-number-low}
 use Rattle.comparison.specs.CallLimits.{Limits}
 use Rattle.comparison.specs.Outcome.{reported, refusal}
 use Rattle.answer_numbers.specs.AnswerNumbers.{outcomeNumber}
-use Rattle.answer_numbers.specs.AnswerNumberLaws.{refuses-above}
+use Rattle.answer_numbers.specs.AnswerNumberLaws.{answered-handed, refuses-above}
 use Rattle.all_starts.specs.Grouping.{Groups}
 use Rattle.all_starts.specs.GroupingRead.{groupsReturned}
 use Rattle.all_starts.specs.GroupingPromise.{RefusesAll}
@@ -36,13 +36,7 @@ refused-numbers e = ap allNumbers (sym e)
 -- what the call left, with the numbers of its answer
 pub all-handed : {o : Groups} {v before w after : List ℕ} {r : AllAnswer} {number : ℕ} {numbers : List ℕ} → ComparedAll o v before w after r
     → number ≡ allNumber r → numbers ≡ allNumbers r → HandedAll o v before w after numbers number
-all-handed {o} c n ns =
-    record {
-      returns = n ∙ ap allNumber (c .answers) ∙ number-is o;
-      result = ns ∙ ap allNumbers (c .answers) ∙ numbers-are o;
-      bytes = c .bytes;
-      works = c .works;
-    }
+all-handed {o} c n ns = answered-handed allNumber allNumbers c n ns (number-is o) (numbers-are o)
 
 -- no refusal has the number 0
 pub all-above : (l : Limits) (bytes : List ℕ) (work answer : ℕ) {number place : ℕ} → RefusesAll l bytes work answer number place → 1 ≤ number

@@ -12,8 +12,8 @@ use Rattle.sheets.specs.SheetBytes.{SheetIs, SheetRefused}
 use Rattle.comparison.specs.CallLimits.{Limits}
 use Rattle.comparison.specs.Classes.{classOf}
 use Rattle.comparison.specs.Set.{explored}
-use Rattle.comparison.specs.Outcome.{cleared, workRefused}
-use Rattle.comparison.specs.Promise.{RefusesBy, GivesBy, ResultRound, Classified}
+use Rattle.comparison.specs.Outcome.{cleared}
+use Rattle.comparison.specs.Promise.{RefusesBy, GivesBy, PromiseBy, ResultRound, Classified}
 use Rattle.answers.specs.declared.Reported.{Reported}
 use Rattle.all_starts.specs.Grouping.{Grouping, groupingOn, groupingBytes, groupingLength}
 use Rattle.all_starts.specs.GroupingRead.{groupedOf, groupingRead}
@@ -43,13 +43,6 @@ RefusesAll l bytes =
 abbrev pub GivesAll : Limits → List ℕ → ℕ → ℕ → Grouping → Type 0
 GivesAll l bytes = GivesBy (SheetIs bytes) l (λ sheet. sheet .starts) (groupingFor l) groupingLength
 
--- What goes with a refusal: its condition holds, the answer slice is untouched, and the work slice is cleared after 21 and 22 and
--- untouched after any other.
-pub record RefusalAll (l : Limits) (bytes v before w after : List ℕ) (number place : ℕ) : Type 0 where
-  pub refuses : RefusesAll l bytes (length v) (length before) number place
-  pub untouched : after ≡ before
-  pub work : w ≡ workRefused number v
-
 -- What goes with a grouping: what is read back is the grouping that the sheet asks for, and it is faithful to the sheet; its bytes stand
 -- in front of the answer slice, and the rest of it is as before; the work slice is cleared.
 pub record GroupingPromise (l : Limits) (bytes v before w after : List ℕ) (x : Grouped) : Type 1 where
@@ -61,11 +54,8 @@ pub record GroupingPromise (l : Limits) (bytes v before w after : List ℕ) (x :
 
 -- The work slice v became w, the answer slice `before` became `after`, and `answer` was returned: each refusal under its condition
 -- and no other, and otherwise the grouping.
-pub record AllPromise (l : Limits) (bytes v before w after : List ℕ) (answer : AllAnswer) : Type 1 where
-  pub refused : (number place : ℕ) → answer ≡ Refused number place → RefusalAll l bytes v before w after number place
-  pub to-refuse : (number place : ℕ) → RefusesAll l bytes (length v) (length before) number place → answer ≡ Refused number place
-  pub made : (x : Grouped) → answer ≡ Classes x → GroupingPromise l bytes v before w after x
-  pub to-give : (g : Grouping) → GivesAll l bytes (length v) (length before) g → answer ≡ Classes (groupedOf g)
+abbrev pub AllPromise : Limits → List ℕ → List ℕ → List ℕ → List ℕ → List ℕ → AllAnswer → Type 1
+AllPromise l bytes = PromiseBy Refused (RefusesAll l bytes) Classes groupedOf (GivesAll l bytes) (GroupingPromise l bytes)
 
 -- ---- beside the comparing call
 -- Card 1's sentence, where neither call is refused: of the bytes `after` and of what both returned. Two starts share a class in what is

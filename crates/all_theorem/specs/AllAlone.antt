@@ -5,10 +5,10 @@ use Prim.Native.Nat.{ℕ}
 use lib.ListN.{length, drop}
 use Rattle.sheet_reading.specs.SheetRead.{one-sheet}
 use Rattle.comparison.specs.CallLimits.{Limits}
-use Rattle.comparison_laws.specs.FrameTheorem.{Decides, gives-report, gives-refusal}
-use Rattle.all_starts.specs.Grouping.{Grouping, Groups, groupingBytes}
-use Rattle.all_starts.specs.GroupingRead.{groupedOf, groupingRead}
-use Rattle.all_starts.specs.GroupingPromise.{groupingFor, RefusesAll, GivesAll, AllPromise}
+use Rattle.promise_laws.specs.PromiseAlone.{promise-alone}
+use Rattle.all_starts.specs.Grouping.{Grouping, groupingBytes}
+use Rattle.all_starts.specs.GroupingPromise.{groupingFor, GivesAll, GroupingPromise, AllPromise}
+use Rattle.all_starts.specs.declared.Grouped.{Grouped}
 use Rattle.all_starts.specs.declared.AllAnswer.{AllAnswer}
 use Rattle.all_theorem.specs.AllTheorem.{all-decides}
 
@@ -16,26 +16,15 @@ use Rattle.all_theorem.specs.AllTheorem.{all-decides}
 one-grouping : {l : Limits} {bytes : List ℕ} {work answer : ℕ} {g k : Grouping} → GivesAll l bytes work answer g → GivesAll l bytes work answer k → g ≡ k
 one-grouping {l} {bytes} x y = x .given ∙ ap (groupingFor l) (one-sheet bytes (x .read) (y .read)) ∙ sym (y .given)
 
-module _ (l : Limits) (bytes v before : List ℕ) {w after : List ℕ} {answer : AllAnswer} {w2 after2 : List ℕ} {answer2 : AllAnswer}
-    (a : AllPromise l bytes v before w after answer) (b : AllPromise l bytes v before w2 after2 answer2) where
-  by-outcome : {o : Groups} → Decides (RefusesAll l bytes (length v) (length before)) (GivesAll l bytes (length v) (length before)) o
-      → (answer ≡ answer2) × (after ≡ after2) × (w ≡ w2)
-  by-outcome (gives-refusal {number} {place} x) =
-      let p = a .to-refuse number place x in
-      let q = b .to-refuse number place x in
-      let m = a .refused number place p in
-      let n = b .refused number place q in
-      (p ∙ sym q, m .untouched ∙ sym (n .untouched), m .work ∙ sym (n .work))
-  by-outcome (gives-report {a = g} x) =
-      let p = a .to-give g x in
-      let q = b .to-give g x in
-      let m = a .made (groupedOf g) p in
-      let n = b .made (groupedOf g) q in
-      let same : groupingRead (groupedOf g) after ≡ groupingRead (groupedOf g) after2 = one-grouping (m .gives) (n .gives) in (
-        p ∙ sym q,
-        m .written ∙ ap (λ (k : Grouping). groupingBytes k ++ drop (groupedOf g .length) before) same ∙ sym (n .written),
-        m .work ∙ sym (n .work),
-      )
+-- a grouping fixes what is left in both slices
+grouping-fixes : {l : Limits} {bytes v before w after w2 after2 : List ℕ} {x : Grouped} → GroupingPromise l bytes v before w after x
+    → GroupingPromise l bytes v before w2 after2 x → (after ≡ after2) × (w ≡ w2)
+grouping-fixes {before = before} {x = x} m n = (
+  m .written ∙ ap (λ (k : Grouping). groupingBytes k ++ drop (x .length) before) (one-grouping (m .gives) (n .gives)) ∙ sym (n .written),
+  m .work ∙ sym (n .work),
+)
 
-  pub all-alone : (answer ≡ answer2) × (after ≡ after2) × (w ≡ w2)
-  all-alone = by-outcome (all-decides l bytes (length v) (length before))
+pub all-alone : (l : Limits) (bytes v before : List ℕ) {w after : List ℕ} {answer : AllAnswer} {w2 after2 : List ℕ} {answer2 : AllAnswer}
+    → AllPromise l bytes v before w after answer → AllPromise l bytes v before w2 after2 answer2
+    → (answer ≡ answer2) × (after ≡ after2) × (w ≡ w2)
+all-alone l bytes v before a b = promise-alone (all-decides l bytes (length v) (length before)) (λ x. grouping-fixes) a b

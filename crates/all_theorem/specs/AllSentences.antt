@@ -1,9 +1,9 @@
 -- Document 02, card 1, sentence by sentence: what follows for a caller who has the grouping, and for one who has the comparing call's
 -- answer beside it. Proved of any two calls that keep their promises, each within limits and with slices of its own.
 use mathlib.Core.Path.{_≡_, refl, sym, ap, _∙_, subst}
-use mathlib.Core.Logic.{_↔_, ⊎-elim}
+use mathlib.Core.Logic.{_↔_}
 use mathlib.Core.Bool.{Bool, true, false}
-use mathlib.Core.List.{List, [], _∷_, List·Memᴰ, List·Memᴰ·head, List·Memᴰ·tail, List·Memᴰ·cases-cons, List·Memᴰ·eq-of-singleton}
+use mathlib.Core.List.{List, [], List·Memᴰ, List·Memᴰ·head, List·Memᴰ·tail}
 use Prim.Native.Nat.{ℕ, _<_}
 use native.Mathlib.Omega.{arith}
 use lib.ListN.{length, getD, length-map}
@@ -21,8 +21,9 @@ use Rattle.comparison.specs.Classes.{classOf, share}
 use Rattle.comparison.specs.Report as spec
 use Rattle.comparison.specs.Report.{Verdict, SAME, DIFF}
 use Rattle.comparison.specs.SheetTransitions.{transitions}
-use Rattle.comparison.specs.Promise.{PassesLimit, many-members, many-threads, many-moves, startsOf, Refuses, by-sheet, short-work, large-set, short-answer, Faithful}
-use Rattle.comparison_laws.specs.Theorem.{same-not-diff}
+use Rattle.comparison.specs.Promise.{PassesLimit, many-members, many-threads, many-moves, startsOf, Faithful}
+use Rattle.comparison_laws.specs.RoomLaws.{by-large-set}
+use Rattle.comparison_laws.specs.Theorem.{both-hold, same-not-diff}
 use Rattle.comparison_laws.specs.LimitLaws.{passes-lower}
 use Rattle.answers.specs.ReadBack.{readBack}
 use Rattle.answers.specs.declared.Reported.{Reported}
@@ -53,7 +54,7 @@ module _ (sheet : Sheet) (g : Grouping) (f : FaithfulAll sheet g) where
 
   -- it is a member
   pub start-there : (i : ℕ) → i < length (sheet .starts) → List·Memᴰ (start sheet i) (g .members)
-  start-there i l = f .listed .whole (start sheet i) .1 (seed (getD-in (sheet .starts) i (record { store = 0; threads = [] }) l))
+  start-there i l = f .listed .set .whole (start sheet i) .1 (seed (getD-in (sheet .starts) i (record { store = 0; threads = [] }) l))
 
   -- two starts share a class exactly when a saturated barbed bisimulation contains the two as a pair
   pub starts-share : (i j : ℕ) → i < length (sheet .starts) → j < length (sheet .starts)
@@ -70,8 +71,8 @@ module _ (sheet : Sheet) (g : Grouping) (f : FaithfulAll sheet g) where
 module _ (sheet : Sheet) (p q : Configuration) (r : spec.Report) (f : Faithful sheet p q r) where
   shared : (share (r .members) (r .classes) p q ≡ true) ↔ Bisimilar (transitions sheet) p q
   shared =
-      f .listed .classes p q (f .listed .whole p .1 (seed (List·Memᴰ·head refl)))
-      (f .listed .whole q .1 (seed (List·Memᴰ·tail (List·Memᴰ·head refl))))
+      f .listed .classes p q (f .listed .set .whole p .1 (seed (List·Memᴰ·head refl)))
+      (f .listed .set .whole q .1 (seed (List·Memᴰ·tail (List·Memᴰ·head refl))))
 
   pub same-bisimilar : (r .verdict ≡ SAME) ↔ Bisimilar (transitions sheet) p q
   same-bisimilar = ((λ e. from (tested (share (r .members) (r .classes) p q)) e), (λ b. to (r .verdict) refl b))
@@ -137,11 +138,8 @@ module _ (sheet : Sheet) {few more : List Configuration} (part : (p : Configurat
 -- both chosen starts are among all starts
 pair-part : {bytes : List ℕ} {left right : ℕ} {sheet : Sheet} → ChoiceIs bytes left right sheet
     → (p : Configuration) → List·Memᴰ p (startsOf sheet left right) → List·Memᴰ p (sheet .starts)
-pair-part {left = left} {right} {sheet} c p m =
-    ⊎-elim (λ (e : p ≡ start sheet left). subst (λ (q : Configuration). List·Memᴰ q (sheet .starts)) (sym e) (there left (c .left-there)))
-    (λ (k : List·Memᴰ p (start sheet right ∷ [])).
-    subst (λ (q : Configuration). List·Memᴰ q (sheet .starts)) (sym (List·Memᴰ·eq-of-singleton k)) (there right (c .right-there)))
-    (List·Memᴰ·cases-cons m)
+pair-part {left = left} {right} {sheet} c =
+    both-hold (λ (p : Configuration). List·Memᴰ p (sheet .starts)) (there left (c .left-there)) (there right (c .right-there))
   where
     there : (i : ℕ) → i < length (sheet .starts) → List·Memᴰ (start sheet i) (sheet .starts)
     there i l = getD-in (sheet .starts) i (record { store = 0; threads = [] }) l
@@ -150,14 +148,12 @@ pair-part {left = left} {right} {sheet} c p m =
 pub no-large-pair : {l h : Limits} {bytes v before w after : List ℕ} {x : Grouped} {left right : ℕ} {v2 before2 w2 after2 : List ℕ} {answer : Answer} {place : ℕ}
     → NoGreater l h → AllPromise l bytes v before w after (Classes x) → CallPromise h bytes left right v2 before2 w2 after2 answer
     → answer ≡ Refused largeSet place → ⊥
-no-large-pair {l} {h} {bytes} {x = x} {left} {right} {v2} {before2} {place = place} le a b e = go refl (b .refused largeSet place e .refuses)
-  where
-    go : {number at : ℕ} → number ≡ largeSet → Refuses h bytes left right (length v2) (length before2) number at → ⊥
-    go {number} {at} n (by-sheet r) = omega (arith, n, number-low bytes left right number at (choice-reads bytes left right .is-refused number at r) .within)
-    go n (short-work sheet c k) = omega (arith, n)
-    go n (short-answer sheet c k p j) = omega (arith, n)
-    go n (large-set sheet c k p) =
-        let g = a .made x refl .gives in
-        let one : sheet ≡ g .sheet = one-sheet bytes (c .written) (g .read) in
-        g .no-limit (subst (λ (s : Sheet). PassesLimit s l (s .starts)) one
-        (passes-wider sheet (pair-part c) (passes-lower sheet (startsOf sheet left right) le p)))
+no-large-pair {l} {bytes = bytes} {x = x} {left} {right} {place = place} le a b e =
+    let large =
+    by-large-set
+    (λ k r. omega (arith, number-low bytes left right largeSet k (choice-reads bytes left right .is-refused largeSet k r) .within))
+    (b .refused largeSet place e .refuses) in
+    let sheet : Sheet = large .0 in
+    let g = a .made x refl .gives in
+    g .no-limit (subst (λ (s : Sheet). PassesLimit s l (s .starts)) (one-sheet bytes (large .1 .written) (g .read))
+    (passes-wider sheet (pair-part (large .1)) (passes-lower sheet (startsOf sheet left right) le (large .2))))

@@ -11,7 +11,7 @@ use lib.Seq.{take-append-seam}
 use Rattle.lists.specs.Lists.{concatMap}
 use Rattle.list_laws.specs.ListPlaces.{getD-in}
 use Rattle.list_laws.specs.Members.{mem-map}
-use Rattle.sheets.specs.Sheet.{Configuration, Sheet, start}
+use Rattle.sheets.specs.Sheet.{Configuration, Sheet}
 use Rattle.sheets.specs.SheetBytes.{SheetIs, SheetRefused, wordBytes}
 use Rattle.sheets.specs.WellFormed.{Admissible}
 use Rattle.sheet_reading.specs.Reading.{readSheet}
@@ -55,6 +55,20 @@ module _ (l : Limits) (bytes : List ℕ) (work answer : ℕ) where
       frame-gives (SheetIs bytes) (SheetRefused bytes) (length bytes) (readSheet bytes) (sheet-reads bytes) l (λ sheet. sheet .starts) groupingOn
       groupingBytes work answer
 
+-- ---- numbers of two bytes
+words-length : (ns : List ℕ) → length (concatMap wordBytes ns) ≡ 2 * length ns
+words-length [] = refl
+words-length (n ∷ ns) = omega (arith, words-length ns)
+
+-- they are read back
+words-back : (ns : List ℕ) → ((n : ℕ) → List·Memᴰ n ns → n < 65536) → wordsRead (concatMap wordBytes ns) ≡ ns
+unfolding wordsRead
+words-back [] f = refl
+words-back (n ∷ ns) f =
+    let h = f n (List·Memᴰ·head refl) in
+    let here : n % 256 + 256 * (n / 256 % 256) ≡ n = omega arith in
+    ap₂ (λ (k : ℕ) (ks : List ℕ). k ∷ ks) here (words-back ns (λ k i. f k (List·Memᴰ·tail i)))
+
 -- ---- a sheet that was read and whose set passes no limit
 module _ (l : Limits) (sheet : Sheet) (fine : Admissible sheet) (none : PassesLimit sheet l (sheet .starts) → ⊥) where
   abbrev set : List Configuration
@@ -83,11 +97,6 @@ module _ (l : Limits) (sheet : Sheet) (fine : Admissible sheet) (none : PassesLi
         result = result-round sheet (fine .well-formed) l (sheet .starts) (fine .starts-fit) within some;
       }
 
-  -- two bytes for each start
-  words-length : (ns : List ℕ) → length (concatMap wordBytes ns) ≡ 2 * length ns
-  words-length [] = refl
-  words-length (n ∷ ns) = omega (arith, words-length ns)
-
   -- the room that the limits name suffices
   pub grouping-room : groupingLength (groupingFor l sheet) ≤ groupingRoom l
   unfolding groupingOn
@@ -105,14 +114,6 @@ module _ (l : Limits) (sheet : Sheet) (fine : Admissible sheet) (none : PassesLi
   module _ (small : NoGreater l limits) where
     members-small : MembersFit set numbers
     members-small = members-fit sheet fine l small (sheet .starts) (fine .starts-fit) fit some
-
-    words-back : (ns : List ℕ) → ((n : ℕ) → List·Memᴰ n ns → n < 65536) → wordsRead (concatMap wordBytes ns) ≡ ns
-    unfolding wordsRead
-    words-back [] f = refl
-    words-back (n ∷ ns) f =
-        let h = f n (List·Memᴰ·head refl) in
-        let here : n % 256 + 256 * (n / 256 % 256) ≡ n = omega arith in
-        ap₂ (λ (k : ℕ) (ks : List ℕ). k ∷ ks) here (words-back ns (λ k i. f k (List·Memᴰ·tail i)))
 
     -- it is read back from what is returned of it and from its bytes, whatever stands behind them
     pub grouping-back : (more : List ℕ) → groupingRead (groupedOf (groupingFor l sheet)) (groupingBytes (groupingFor l sheet) ++ more) ≡ groupingFor l sheet

@@ -1,8 +1,8 @@
 -- Every report of the call fits its bytes: its members are ordered, its numbers are small, and its trail stays among its members.
-use mathlib.Core.Path.{_≡_, refl, sym, ap, _∙_, subst}
+use mathlib.Core.Path.{_≡_, refl, sym, subst}
 use mathlib.Core.Logic.{⊎-elim}
 use mathlib.Core.Bool.{Bool, true, false, _||_}
-use mathlib.Core.List.{List, [], _∷_, List·Memᴰ, List·Memᴰ·head, List·Memᴰ·tail, List·Memᴰ·not-nil, List·Memᴰ·cases-cons, List·Memᴰ·eq-of-singleton}
+use mathlib.Core.List.{List, [], _∷_, List·Memᴰ, List·Memᴰ·head, List·Memᴰ·tail, List·Memᴰ·not-nil, List·Memᴰ·cases-cons}
 use Prim.Native.Nat.{ℕ, zero, suc, _+_, _-_, _^_, _≤_, _<_}
 use native.Mathlib.Omega.{arith}
 use lib.Pow.{pow-mono}
@@ -19,7 +19,7 @@ use Rattle.moves.specs.Moves.{moves}
 use Rattle.refinement_laws.specs.StableRounds.{member-of}
 use Rattle.comparison.specs.CallLimits.{Limits, NoGreater, limits}
 use Rattle.comparison.specs.Set.{over, explored, fits}
-use Rattle.comparison.specs.Classes.{numberedFrom, numbered}
+use Rattle.comparison.specs.Classes.{numbered}
 use Rattle.comparison_laws.specs.ClassLaws.{Numbering, no-more, in-use, next, numberedFrom-numbering, numbered-length}
 use Rattle.comparison.specs.Rounds.{rounds, classes, refined, resultOf, apartIn, storesEqual, together}
 use Rattle.comparison.specs.Trail.{Side, left, right, Reply, none, move, TrailStep, after, firstOf, replyTo, unanswered, trailFrom}
@@ -34,7 +34,7 @@ use Rattle.comparison_laws.specs.SheetMoves.{lawful}
 use Rattle.comparison.specs.SheetTransitions.{transitions}
 use Rattle.comparison_laws.specs.ResultLaws.{classes-length, rounds-of, rounds-at, result-is}
 use Rattle.comparison_laws.specs.ReportLaws.{within-limits}
-use Rattle.comparison_laws.specs.Theorem.{member-some}
+use Rattle.comparison_laws.specs.Theorem.{member-some, both-hold}
 use Rattle.comparison_laws.specs.CallTheorem.{reports-exactly}
 use Rattle.answer_laws.specs.Fitting.{ReplyFits, StepFits, MembersFit, Fitting}
 
@@ -138,9 +138,9 @@ module _ (sheet : Sheet) (fine : Admissible sheet) where
             (λ m i. unanswered-mem sheet set rs classes p q i .0)
             (λ k i. unanswered-mem sheet set rs classes q p i .0)
 
-  -- ---- the set that grows from configurations of the sheet and passes no limit, with the classes of the result's round
+  -- ---- the set that grows from configurations of the sheet and passes no limit
   module _ (l : Limits) (small : NoGreater l limits) (seeds : List Configuration) (of : (m : Configuration) → List·Memᴰ m seeds → OfSheet sheet m)
-      (fit : fits sheet l (explored sheet l seeds) ≡ true) (some : 1 ≤ length (explored sheet l seeds)) where
+      (fit : fits sheet l (explored sheet l seeds) ≡ true) where
     abbrev set-of : List Configuration
     set-of = explored sheet l seeds
 
@@ -153,22 +153,25 @@ module _ (sheet : Sheet) (fine : Admissible sheet) where
     few-members : length set-of ≤ limits .members
     few-members = omega (arith, within-limits l set-of within .0, small .members)
 
-    pub members-fit : MembersFit set-of (getD rounds-of-set (resultOf rounds-of-set) [])
-    members-fit =
-        let closed = explored-closed sheet l seeds within in
-        let last : resultOf rounds-of-set < length rounds-of-set = omega (arith, rounds-of sheet set-of wf closed some .some) in
-        let at = rounds-at sheet set-of wf closed some (resultOf rounds-of-set) last in
+    -- with the classes of any round
+    pub round-fit : (n : ℕ) → MembersFit set-of (classes sheet set-of n)
+    round-fit n =
         record {
           ordered = explored-ascends sheet l seeds;
           stores = λ m i.
               constraint-small (member-of (transitions sheet) (lawful sheet wf) seeds of m (explored-member sheet l seeds m i) .store);
           threads = λ m i. omega (arith, within-limits l set-of within .1 m i, small .threads);
-          numbered = ap length at ∙ classes-length sheet set-of (resultOf rounds-of-set);
-          classes = λ i h.
-              subst (λ (c : List ℕ). getD c i 0 < 65536) (sym at)
-              (omega (arith, classes-small sheet set-of (resultOf rounds-of-set) i, few-members));
+          numbered = classes-length sheet set-of n;
+          classes = λ i h. omega (arith, classes-small sheet set-of n i, few-members);
           few = few-members;
         }
+
+    -- with those of the result's
+    pub members-fit : 1 ≤ length set-of → MembersFit set-of (getD rounds-of-set (resultOf rounds-of-set) [])
+    members-fit some =
+        let closed = explored-closed sheet l seeds within in
+        let last : resultOf rounds-of-set < length rounds-of-set = omega (arith, rounds-of sheet set-of wf closed some .some) in
+        subst (MembersFit set-of) (sym (rounds-at sheet set-of wf closed some (resultOf rounds-of-set) last)) (round-fit (resultOf rounds-of-set))
 
   -- the report on two configurations of the sheet
   pub report-fits : (l : Limits) → NoGreater l limits → (p q : Configuration) → OfSheet sheet p → OfSheet sheet q
@@ -181,7 +184,7 @@ module _ (sheet : Sheet) (fine : Admissible sheet) where
       let rs : List (List ℕ) = rounds sheet set in
       let closed = explored-closed sheet l seeds (fits-not-over sheet l seeds fit) in
       let some = member-some set (explored-seeds sheet l seeds p (List·Memᴰ·head refl)) in
-      let listed = members-fit l small seeds of fit some in
+      let listed = members-fit l small seeds (both-hold (OfSheet sheet) op oq) fit some in
       record {
         listed = listed;
         steps =
@@ -189,11 +192,6 @@ module _ (sheet : Sheet) (fine : Admissible sheet) where
             (explored-seeds sheet l seeds q (List·Memᴰ·tail (List·Memᴰ·head refl)));
         few-steps = omega (arith, trail-length sheet set rs p q, result-is sheet set wf closed some .few, listed .few);
       }
-    where
-      of : (m : Configuration) → List·Memᴰ m (p ∷ q ∷ []) → OfSheet sheet m
-      of m i =
-          ⊎-elim (λ (e : m ≡ p). subst (OfSheet sheet) (sym e) op)
-          (λ (j : List·Memᴰ m (q ∷ [])). subst (OfSheet sheet) (sym (List·Memᴰ·eq-of-singleton j)) oq) (List·Memᴰ·cases-cons i)
 
 -- ---- the call
 -- Every report of the call fits its bytes, at limits that are not above document 01's.

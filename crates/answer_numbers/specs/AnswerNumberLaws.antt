@@ -6,18 +6,19 @@ use native.Mathlib.Omega.{arith}
 use Rattle.sheets.specs.Sheet.{Configuration, Sheet}
 use Rattle.comparison.specs.CallLimits.{Limits}
 use Rattle.comparison.specs.Report.{Verdict, SAME, DIFF, reportLength, Compares}
-use Rattle.comparison.specs.Outcome.{reported, refusal}
-use Rattle.comparison.specs.Call.{compare, compareWith}
+use Rattle.comparison.specs.Outcome.{Outcome, reported, refusal}
+use Rattle.comparison.specs.Call.{compareWith}
 use Rattle.comparison.specs.Promise.{RefusesBy, by-sheet, short-work, large-set, short-answer}
 use Rattle.comparison_laws.specs.CallTheorem.{refuses-exactly}
 use Rattle.answers.specs.declared.Reported.{Reported}
 use Rattle.answers.specs.declared.Answer.{Answer}
 use Rattle.answers.specs.declared.Answer.the-variants.{Report, Refused}
 use Rattle.answers.specs.Returned.{isSame, returned}
+use Rattle.call_frame.specs.Answered.{Answered}
 use Rattle.compare_call.specs.Compared.{Compared}
 use Rattle.sheet_reading.specs.SheetRead.{choice-reads}
 use Rattle.sheet_laws.specs.RefusalNumbers.{number-low}
-use Rattle.answer_numbers.specs.AnswerNumbers.{outcomeNumber, outcomeNumbers, verdictNumber, Handed, sameNumber, answerNumber, answerNumbers}
+use Rattle.answer_numbers.specs.AnswerNumbers.{outcomeNumber, outcomeNumbers, verdictNumber, HandedBy, Handed, sameNumber, answerNumber, answerNumbers}
 
 verdict-is : (v : Verdict) → sameNumber (isSame v) ≡ verdictNumber v
 verdict-is SAME = refl
@@ -42,16 +43,23 @@ pub refusal-numbers : {r : Answer} {number place : ℕ} → r ≡ Refused number
     → _≡_ {A = List ℕ} (0 ∷ 0 ∷ 0 ∷ 0 ∷ 0 ∷ place ∷ []) (answerNumbers r)
 refusal-numbers e = ap answerNumbers (sym e)
 
--- what the call left, with the numbers of its answer
-pub call-handed : {o : Compares} {v before w after : List ℕ} {r : Answer} {number : ℕ} {numbers : List ℕ} → Compared o v before w after r
-    → number ≡ answerNumber r → numbers ≡ answerNumbers r → Handed o v before w after numbers number
-call-handed {o} c n ns =
+-- what any call left, with the numbers of its answer, where those are the outcome's
+pub answered-handed : {A R : Type 0} {written : A → List ℕ} {returned : Outcome A → R} {numbered : Outcome A → List ℕ} (number-of : R → ℕ)
+    (numbers-of : R → List ℕ) {o : Outcome A} {v before w after : List ℕ} {r : R} {number : ℕ} {numbers : List ℕ}
+    → Answered written returned o v before w after r → number ≡ number-of r → numbers ≡ numbers-of r
+    → number-of (returned o) ≡ outcomeNumber o → numbers-of (returned o) ≡ numbered o → HandedBy written numbered o v before w after numbers number
+answered-handed number-of numbers-of c n ns is are =
     record {
-      returns = n ∙ ap answerNumber (c .answers) ∙ number-is o;
-      result = ns ∙ ap answerNumbers (c .answers) ∙ numbers-are o;
+      returns = n ∙ ap number-of (c .answers) ∙ is;
+      result = ns ∙ ap numbers-of (c .answers) ∙ are;
       bytes = c .bytes;
       works = c .works;
     }
+
+-- the comparing call
+pub call-handed : {o : Compares} {v before w after : List ℕ} {r : Answer} {number : ℕ} {numbers : List ℕ} → Compared o v before w after r
+    → number ≡ answerNumber r → numbers ≡ answerNumbers r → Handed o v before w after numbers number
+call-handed {o} c n ns = answered-handed answerNumber answerNumbers c n ns (number-is o) (numbers-are o)
 
 -- a number of the frame's is at least 1, where those of reading are
 pub refuses-above : {Is : Sheet → Type 0} {Not : ℕ → ℕ → Type 0} {l : Limits} {seeds : Sheet → List Configuration} {needed : Sheet → ℕ} {work answer number place : ℕ}

@@ -11,8 +11,8 @@ use Rattle.sheets.specs.SheetBytes.{ChoiceIs}
 use Rattle.comparison.specs.CallLimits.{Limits}
 use Rattle.comparison.specs.Report as spec
 use Rattle.comparison.specs.Report.{Verdict, SAME, DIFF, reportBytes, reportLength}
-use Rattle.comparison.specs.Outcome.{cleared, workRefused}
-use Rattle.comparison.specs.Promise.{Refuses, Reports, Faithful}
+use Rattle.comparison.specs.Outcome.{cleared}
+use Rattle.comparison.specs.Promise.{PromiseBy, Refuses, Reports, Faithful}
 use Rattle.answers.specs.ReadBack.{readBack}
 use Rattle.answers.specs.declared.Reported.{Reported}
 use Rattle.answers.specs.declared.Answer.{Answer}
@@ -27,13 +27,6 @@ verdictRead false = DIFF
 abbrev pub reportRead : Reported → List ℕ → spec.Report
 reportRead x answer = readBack (verdictRead (x .same)) (x .round) (x .left) (x .right) answer
 
--- What goes with a refusal: its condition holds, the answer slice is untouched, and the work slice is cleared after 21 and 22 and
--- untouched after any other (`clears`).
-pub record RefusalPromise (l : Limits) (bytes : List ℕ) (left right : ℕ) (v before w after : List ℕ) (number place : ℕ) : Type 0 where
-  pub refuses : Refuses l bytes left right (length v) (length before) number place
-  pub untouched : after ≡ before
-  pub work : w ≡ workRefused number v
-
 -- What goes with a report: what is read back is the report that the sheet and the choice ask for, and it is faithful to the
 -- sheet; its bytes stand in front of the answer slice, and the rest of it is as before; the work slice is cleared.
 pub record ReportPromise (l : Limits) (bytes : List ℕ) (left right : ℕ) (v before w after : List ℕ) (x : Reported) : Type 1 where
@@ -45,8 +38,6 @@ pub record ReportPromise (l : Limits) (bytes : List ℕ) (left right : ℕ) (v b
 
 -- The work slice v became w, the answer slice `before` became `after`, and `answer` was returned: each refusal under its condition
 -- and no other, and otherwise the report.
-pub record CallPromise (l : Limits) (bytes : List ℕ) (left right : ℕ) (v before w after : List ℕ) (answer : Answer) : Type 1 where
-  pub refused : (number place : ℕ) → answer ≡ Refused number place → RefusalPromise l bytes left right v before w after number place
-  pub to-refuse : (number place : ℕ) → Refuses l bytes left right (length v) (length before) number place → answer ≡ Refused number place
-  pub made : (x : Reported) → answer ≡ Report x → ReportPromise l bytes left right v before w after x
-  pub to-report : (r : spec.Report) → Reports l bytes left right (length v) (length before) r → answer ≡ Report (returnedOf r)
+abbrev pub CallPromise : Limits → List ℕ → ℕ → ℕ → List ℕ → List ℕ → List ℕ → List ℕ → Answer → Type 1
+CallPromise l bytes left right =
+    PromiseBy Refused (Refuses l bytes left right) Report returnedOf (Reports l bytes left right) (ReportPromise l bytes left right)

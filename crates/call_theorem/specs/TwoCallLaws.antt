@@ -13,13 +13,15 @@ use Rattle.comparison.specs.CallLimits.{Limits, NoGreater, limits, deskLimits, 
 use Rattle.comparison.specs.Report as spec
 use Rattle.comparison.specs.Report.{reportBytes}
 use Rattle.comparison.specs.Call.{compare, compareDesk}
-use Rattle.comparison.specs.Promise.{Refuses, by-sheet, short-work, large-set, short-answer, Reports}
-use Rattle.comparison_laws.specs.CallTheorem.{room-suffices, never-short}
+use Rattle.comparison.specs.Promise.{large-set}
+use Rattle.comparison_laws.specs.CallTheorem.{report-room, room-suffices}
+use Rattle.comparison_laws.specs.RoomLaws.{never-short-answer}
 use Rattle.comparison_laws.specs.LimitLaws.{desk-no-greater, reports-same, refuses-lower, Beside, report-of-both, refusal-of-both, lower-large, beside}
 use Rattle.answers.specs.declared.Reported.{Reported}
 use Rattle.answers.specs.declared.Answer.{Answer}
 use Rattle.answers.specs.declared.Answer.the-variants.{Report, Refused}
 use Rattle.answers.specs.Returned.{returnedOf}
+use Rattle.promise_laws.specs.PromiseAlone.{both-refuse, both-give}
 use Rattle.compare_call.specs.Compared.{Compared}
 use Rattle.call_promise.specs.CallPromise.{reportRead, ReportPromise, CallPromise}
 use Rattle.call_promise.specs.TwoCalls.{OneCall, OneReport, LargeBy, LowerCall}
@@ -30,7 +32,7 @@ module _ (l : Limits) (bytes : List ℕ) (left right : ℕ) where
   -- what is returned of a report is fixed by what is read back
   returned-read : {v before w after : List ℕ} {x : Reported} → CallPromise l bytes left right v before w after (Report x)
       → x ≡ returnedOf (reportRead x after)
-  returned-read {after = after} {x = x} a = same-report (a .to-report (reportRead x after) (a .made x refl .reports))
+  returned-read {after = after} {x = x} a = same-report (a .to-give (reportRead x after) (a .made x refl .reports))
 
   -- the bytes in front of the answer slice are the report's
   front-read : {v before w after : List ℕ} {x : Reported} → ReportPromise l bytes left right v before w after x
@@ -49,14 +51,15 @@ module _ (l : Limits) (bytes : List ℕ) (left right : ℕ) where
   -- and with that room 22 is not given
   pub room-enough : {v before w after : List ℕ} {answer : Answer} {place : ℕ} → CallPromise l bytes left right v before w after answer
       → reportRoom l ≤ length before → answer ≡ Refused shortAnswer place → ⊥
-  room-enough {v} {before} {place = place} a room e = go refl (a .refused shortAnswer place e .refuses)
-    where
-      go : {number at : ℕ} → number ≡ shortAnswer → Refuses l bytes left right (length v) (length before) number at → ⊥
-      go {number} {at} n (by-sheet x) =
-          omega (arith, n, number-low bytes left right number at (choice-reads bytes left right .is-refused number at x) .within)
-      go n (short-work sheet x k) = omega (arith, n)
-      go n (large-set sheet x k p) = omega (arith, n)
-      go {at = at} n (short-answer sheet x k p j) = never-short l bytes left right (length v) (length before) at room sheet x k p j
+  room-enough {place = place} a room e =
+      never-short-answer
+      (λ k x. omega (arith, number-low bytes left right shortAnswer k (choice-reads bytes left right .is-refused shortAnswer k x) .within))
+      (λ sheet c none. omega (arith, room, report-room l bytes left right sheet c none)) (a .refused shortAnswer place e .refuses)
+
+-- what is said of both calls in every case
+pub one-call : {w after : List ℕ} {answer : Answer} {w2 after2 : List ℕ} {answer2 : Answer} → (answer ≡ answer2) × (after ≡ after2) × (w ≡ w2)
+    → OneCall w after answer w2 after2 answer2
+one-call x = record { answers = x .0; bytes = x .1; works = x .2 }
 
 module _ (l h : Limits) (bytes : List ℕ) (left right : ℕ) where
   -- Where both report, what they return and write is the same.
@@ -73,44 +76,28 @@ module _ (l h : Limits) (bytes : List ℕ) (left right : ℕ) where
       }
 
   -- ---- the same slices
+  -- a report fixes what is left in both
+  pub report-fixes : {v before w after w2 after2 : List ℕ} {x : Reported} → ReportPromise l bytes left right v before w after x
+      → ReportPromise h bytes left right v before w2 after2 x → (after ≡ after2) × (w ≡ w2)
+  report-fixes {before = before} {after = after} {after2 = after2} {x = x} m n =
+      let same : reportRead x after ≡ reportRead x after2 = reports-same l h bytes left right (m .reports) (n .reports) in
+      (m .written ∙ ap (λ (y : spec.Report). reportBytes y ++ drop (x .length) before) same ∙ sym (n .written), m .work ∙ sym (n .work))
+
   module _ (v before : List ℕ) {w after : List ℕ} {answer : Answer} {w2 after2 : List ℕ} {answer2 : Answer}
       (a : CallPromise l bytes left right v before w after answer) (b : CallPromise h bytes left right v before w2 after2 answer2) where
-    pub both-report : {r : spec.Report} → Reports l bytes left right (length v) (length before) r
-        → Reports h bytes left right (length v) (length before) r → OneCall w after answer w2 after2 answer2
-    both-report {r} x y =
-        let p = a .to-report r x in
-        let q = b .to-report r y in
-        let m = a .made (returnedOf r) p in
-        let n = b .made (returnedOf r) q in
-        let same : reportRead (returnedOf r) after ≡ reportRead (returnedOf r) after2 = reports-same l h bytes left right (m .reports) (n .reports) in
-        record {
-          answers = p ∙ sym q;
-          bytes = m .written ∙ ap (λ (y : spec.Report). reportBytes y ++ drop (returnedOf r .length) before) same ∙ sym (n .written);
-          works = m .work ∙ sym (n .work);
-        }
-
-    pub both-refuse : {number place : ℕ} → Refuses l bytes left right (length v) (length before) number place
-        → Refuses h bytes left right (length v) (length before) number place → OneCall w after answer w2 after2 answer2
-    both-refuse {number} {place} x y =
-        let p = a .to-refuse number place x in
-        let q = b .to-refuse number place y in
-        let m = a .refused number place p in
-        let n = b .refused number place q in
-        record { answers = p ∙ sym q; bytes = m .untouched ∙ sym (n .untouched); works = m .work ∙ sym (n .work) }
-
     -- Card 3, for any two limits of which the first are nowhere above the second.
     pub lower-call : NoGreater l h → LowerCall l bytes left right w after answer w2 after2 answer2
     lower-call le =
         record {
           apart = given (beside l h bytes left right le);
           higher-refuses = λ number place e n.
-              both-refuse (refuses-lower l h bytes left right le (b .refused number place e .refuses) n) (b .refused number place e .refuses);
+              one-call (both-refuse a b (refuses-lower l h bytes left right le (b .refused number place e .refuses) n) (b .refused number place e .refuses));
         }
       where
         given : Beside l h bytes left right (length v) (length before)
             → OneCall w after answer w2 after2 answer2 ⊎ ((answer ≡ Refused largeSet 0) × LargeBy l bytes left right)
-        given (report-of-both x y) = inl (both-report x y)
-        given (refusal-of-both x y) = inl (both-refuse x y)
+        given (report-of-both x y) = inl (one-call (both-give a b (λ z. report-fixes) x y))
+        given (refusal-of-both x y) = inl (one-call (both-refuse a b x y))
         given (lower-large sheet e k p) =
             inr (a .to-refuse largeSet 0 (large-set sheet e k p), record { sheet = sheet; chosen = e; passes = p })
 

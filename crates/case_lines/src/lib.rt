@@ -30,12 +30,13 @@ pub enum Parsed {
     Not,
 }
 
-// What is asked of a sheet: to read it, the set of two starts, to compare them, or to compare all starts.
+// What is asked of a sheet: to read it, the set of two starts, to compare them, to compare all starts, or so many rounds.
 pub enum Call {
     Read,
     Set,
     Compare,
     All,
+    Rounds,
 }
 
 // The call that a word names.
@@ -248,6 +249,9 @@ fn call_of(word: &[u8]) -> Called
     }
     if is_word(word, b"all") {
         return Called::Names(Call::All);
+    }
+    if is_word(word, b"rounds") {
+        return Called::Names(Call::Rounds);
     }
     Called::Unknown
 }

@@ -1,9 +1,14 @@
 // Runs a list of cases from standard input. A case names its call: to read the sheet, to work out the set that grows from the two
-// chosen starts, to compare them, or to compare all starts, with an answer slice and a work slice of the lengths that the case gives.
+// chosen starts, to compare them, to compare all starts, with an answer slice and a work slice of the lengths that the case gives, or so
+// many rounds of starts 0 and 1, with an answer slice of the length that the case gives.
 // The case's name is written with what the call gives; after a comparison a line says what the desk's call gives of the same input, the
 // same or its refusal; after a report a line says whether a second checker, which works out document 01's levels over every configuration
 // that the starts reach, finds the same verdict, round and classes; and after a grouping of all starts, or its refusal 21, a line says what
-// the comparing call finds of every two starts. All cases share one work slice, which is not cleared between them.
+// the comparing call finds of every two starts. After an answer of so many rounds a line says what the desk's call gives of the same input,
+// and one whether the largest number of rounds gives the verdict, members and classes of the comparing call. All cases share one work slice, which is not cleared between them.
+use after_rounds::Reached;
+use after_rounds::RoundsAnswer;
+use after_rounds::Verdict;
 use all_starts::AllAnswer;
 use all_starts::Grouped;
 use answers::Answer;
@@ -28,7 +33,9 @@ ghost use Rattle.case_lines.specs.Lines.{Inside};
 
 const LINE_FEED: u8 = 10;
 
-// Room for a list of cases: 256 KiB, where the list has about 170,000 bytes. What stands beyond is not read.
+const MOST_ROUNDS: u64 = 18446744073709551615;
+
+// Room for a list of cases: 256 KiB, where the list has about 220,000 bytes. What stands beyond is not read.
 fn room() -> [u8; 262144]
     ensures { λ r. ⌜ 262144 ≡ length r ⌝ }
 {
@@ -339,13 +346,152 @@ fn write_all_starts(sheet: &[u8], room: usize, numbers: usize, work: &mut [u32])
     }
 }
 
-// Writes what a call gives for a sheet and two numbers: two of its starts, or the lengths of the slices.
+// Writes a verdict.
+fn write_verdict(verdict: Verdict) {
+    match verdict {
+        Verdict::Same => {
+            io::write_all(STDOUT_FILENO, b"SAME");
+        }
+        Verdict::Diff => {
+            io::write_all(STDOUT_FILENO, b"DIFF");
+        }
+        Verdict::Open => {
+            io::write_all(STDOUT_FILENO, b"OPEN");
+        }
+    }
+}
+
+// Writes the numbers that are returned of an answer after so many rounds, and its members.
+fn write_reached(x: Reached, answer: &[u8]) {
+    let verdict = x.verdict;
+    write_verdict(verdict);
+    write_number(x.classes);
+    write_number(x.members);
+    write_number(x.length);
+    io::write_all(STDOUT_FILENO, b"\n");
+    if x.length <= answer.len() {
+        write_members(&answer[..x.length]);
+    }
+}
+
+// Whether a slice begins with the first n bytes of another.
+fn begins_with_part(s: &[u8], bytes: &[u8], n: usize) -> bool {
+    if bytes.len() < n {
+        return false;
+    }
+    begins_with(s, &bytes[..n])
+}
+
+// Whether two answers after so many rounds have the same numbers.
+fn same_numbers(r: RoundsAnswer, s: RoundsAnswer) -> bool {
+    let x = rounds_numbers::rounds_numbers(r);
+    let y = rounds_numbers::rounds_numbers(s);
+    rounds_numbers::rounds_number(r) == rounds_numbers::rounds_number(s)
+        && x[0] == y[0]
+        && x[1] == y[1]
+        && x[2] == y[2]
+        && x[3] == y[3]
+        && x[4] == y[4]
+}
+
+// Writes what the desk's call gives beside an answer after so many rounds: whether both are the same whole, or its refusal.
+fn write_rounds_desk(sheet: &[u8], rounds: u64, r: RoundsAnswer, answer: &[u8], work: &mut [u32]) {
+    let mut bytes = [0u8; 834];
+    let mut out = [0u8; 128];
+    let desk = rounds_call::compare_rounds_desk(sheet, 0, 1, rounds, &mut bytes, work);
+    match desk {
+        RoundsAnswer::After(x) => {
+            if same_numbers(desk, r) && begins_with_part(answer, &bytes, x.length) {
+                io::write_all(STDOUT_FILENO, b"DESK AGREES\n");
+            } else {
+                io::write_all(STDOUT_FILENO, b"DESK DIFFERS\n");
+            }
+        }
+        RoundsAnswer::Refused(number, place) => {
+            let n = text::refused_line(&mut out, number, place);
+            io::write_all(STDOUT_FILENO, b"DESK ");
+            io::write_all(STDOUT_FILENO, &out[..n]);
+        }
+    }
+}
+
+// Whether a verdict is that of a report.
+fn is_verdict(verdict: Verdict, same: bool) -> bool {
+    match verdict {
+        Verdict::Same => same,
+        Verdict::Diff => !same,
+        Verdict::Open => false,
+    }
+}
+
+// Whether an answer has the verdict, the members and the classes of a report.
+fn is_result(r: RoundsAnswer, bytes: &[u8], s: Answer, report: &[u8]) -> bool {
+    match r {
+        RoundsAnswer::After(x) => {
+            let verdict = x.verdict;
+            match s {
+                Answer::Report(y) => is_verdict(verdict, y.same)
+                    && begins_with_part(report, bytes, x.length),
+                Answer::Refused(_, _) => false,
+            }
+        }
+        RoundsAnswer::Refused(_, _) => false,
+    }
+}
+
+// Writes whether the largest number of rounds gives what the comparing call does.
+fn write_most(sheet: &[u8], work: &mut [u32]) {
+    let mut bytes = [0u8; 6658];
+    let mut report = [0u8; 10237];
+    let r = rounds_call::compare_rounds(sheet, 0, 1, MOST_ROUNDS, &mut bytes, work);
+    let s = compare_call::compare(sheet, 0, 1, &mut report, work);
+    if is_result(r, &bytes, s, &report) {
+        io::write_all(STDOUT_FILENO, b"MOST AGREES\n");
+    } else {
+        io::write_all(STDOUT_FILENO, b"MOST DIFFERS\n");
+    }
+}
+
+// The call for so many rounds of starts 0 and 1, with an answer slice no longer than this length.
+fn round_starts(
+    sheet: &[u8],
+    rounds: u64,
+    room: usize,
+    answer: &mut [u8],
+    work: &mut [u32],
+) -> RoundsAnswer {
+    let a = small_numbers::lesser(room, answer.len());
+    rounds_call::compare_rounds(sheet, 0, 1, rounds, &mut answer[..a], work)
+}
+
+// Writes what the call for so many rounds gives of starts 0 and 1.
+fn write_rounds(sheet: &[u8], rounds: usize, room: usize, work: &mut [u32]) {
+    let mut answer = [0u8; 6658];
+    let mut out = [0u8; 128];
+    io::write_all(STDOUT_FILENO, b"\n");
+    let r = round_starts(sheet, rounds as u64, room, &mut answer, work);
+    match r {
+        RoundsAnswer::After(x) => {
+            write_reached(x, &answer);
+            write_rounds_desk(sheet, rounds as u64, r, &answer, work);
+            write_most(sheet, work);
+        }
+        RoundsAnswer::Refused(number, place) => {
+            let n = text::refused_line(&mut out, number, place);
+            io::write_all(STDOUT_FILENO, &out[..n]);
+        }
+    }
+}
+
+// Writes what a call gives for a sheet and two numbers: two of its starts, the lengths of the slices, or a number of rounds and the length
+// of the answer slice.
 fn write_call(call: Call, sheet: &[u8], left: usize, right: usize, work: &mut [u32]) {
     match call {
         Call::Read => write_reading(sheet, left, right),
         Call::Set => write_set(sheet, left, right, work),
         Call::Compare => write_comparison(sheet, left, right, work),
         Call::All => write_all_starts(sheet, left, right, work),
+        Call::Rounds => write_rounds(sheet, left, right, work),
     }
 }
 

@@ -1,7 +1,7 @@
 -- Rounds until one splits no class: what holds after each round, and at the end.
 use mathlib.Core.Path.{_≡_, refl, sym, ap, ap₂, _∙_, subst}
 use mathlib.Core.Logic.{_⊎_, inl, inr}
-use mathlib.Core.Bool.{true}
+use mathlib.Core.Bool.{Bool, true, false}
 use mathlib.Core.List.{List, List·Memᴰ}
 use Prim.Native.Nat.{ℕ, suc, _+_, _*_, _/_, _%_, _≤_, _<_}
 use native.Mathlib.Omega.{arith}
@@ -12,6 +12,7 @@ use borrow.Author.Tests.{eqb-true, eqb-false, ltb-true, ltb-false}
 use Rattle.list_laws.specs.TestLaws.{Tested, tested, passes, fails}
 use Rattle.lists.specs.Lists.{Ascends}
 use Rattle.list_laws.specs.ListPlaces.{getD-any}
+use Rattle.list_laws.specs.Frames.{SameOutside}
 use Rattle.list_laws.specs.Tabulate.{tabulate-same, tabulate-at}
 use Rattle.list_laws.specs.TabulateLaws.{ascends-at}
 use Rattle.sheets.specs.Sheet.{Configuration, Sheet}
@@ -23,14 +24,14 @@ use Rattle.place_sets.specs.PlaceSets.{InSet}
 use Rattle.work_layout.specs.SetLayout.{memberAt, firstMove, moveTotal, SetHeld}
 use Rattle.refinement.specs.Refinement.{Round}
 use Rattle.comparison.specs.Classes.{placeOf, classOf}
-use Rattle.comparison.specs.Rounds.{rounds}
+use Rattle.comparison.specs.Rounds.{rounds, resultOf}
 use Rattle.comparison.specs.SheetTransitions.{transitions}
 use Rattle.comparison_laws.specs.ClassLaws.{placeOf-lt, placeOf-at}
 use Rattle.comparison_laws.specs.RoundLaws.{Sharing}
 use Rattle.kept_classes.specs.MemberLines.{linesOf}
 use Rattle.kept_classes.specs.RoundLines.{round-earlier}
 use Rattle.kept_classes.specs.ClassesPresent.{present-founders, present-alike, present-now}
-use Rattle.kept_classes.specs.SetClasses.{present-result}
+use Rattle.kept_classes.specs.SetClasses.{present-early, present-result}
 use Rattle.kept_classes.specs.ClassPlaces.{PresentAt, places-present}
 use Rattle.kept_classes.specs.RoundLayout.{SameSet, same-set-trans, same-set-low, same-set-high, held-same, held-member-same, held-first-same, held-total-same, held-count, held-at, number-in}
 use Rattle.dominators.specs.KeptMoves.{MoveKept, DominatorsKept, RoundHeld, MemberHeld, dominators-later}
@@ -48,6 +49,7 @@ use Rattle.class_splits.specs.ChosenPlaces.{chosen-class, chosen-classed}
 use Rattle.round_steps.specs.ChosenMembers.{Rechosen}
 use Rattle.round_steps.specs.AwakeMembers.{ListFits, NextListed}
 use Rattle.round_steps.specs.SplitRounds.{Splitting, splitting-all}
+use Rattle.former_classes.specs.FormerClasses.{formerIn, former-own, former-from, Restored}
 use Rattle.class_rounds.specs.NextClasses.{next-together, next-present}
 use Rattle.work_layout.specs.WorkLayout.{workEnd, spansAt, movesAt, dominatorsAt, lineTotalsAt, classesAt, birthsAt, chosenAt, linesAt, memberRoom, moveRoom}
 use Rattle.work_layout.specs.ClassLayout.{classIn, classesIn, bornIn, fromIn}
@@ -58,14 +60,13 @@ pub record Ready (w : List ℕ) (n m : ℕ) : Type 0 where
   pub set : List Configuration
   pub ready : SetReady sheet set w n m
 
--- The set with its classes of the result's round r, of which there are `count`: where each came from, and a member of each.
+-- The set with its classes of round r, of which there are `count`: where each came from, and a member of each.
 pub record RoundsHeld (sheet : Sheet) (set : List Configuration) (w : List ℕ) (n m r count : ℕ) : Type 0 where
   pub ready : SetReady sheet set w n m
   pub present : PresentAt sheet set nobody (fromIn w) (bornIn w) count r (classesIn w n)
-  pub last : length (rounds sheet set) ≡ suc r
   pub classed : Classed w n count
 
--- w is v after the rounds, whatever closed set stands there; nothing behind the work places is changed
+-- w is v after r rounds, whatever closed set stands there; nothing behind the work places is changed
 pub record Refined (v : List ℕ) (n m : ℕ) (w : List ℕ) (r count : ℕ) : Type 0 where
   pub long : length w ≡ length v
   pub at-end : (k : ℕ) → workEnd ≤ k → getD w k 0 ≡ getD v k 0
@@ -73,6 +74,37 @@ pub record Refined (v : List ℕ) (n m : ℕ) (w : List ℕ) (r count : ℕ) : T
   pub classed : Classed w n count
   pub bounds : (r < count) × (count ≤ n)
   pub rounds-held : (sheet : Sheet) (set : List Configuration) → SetReady sheet set v n m → RoundsHeld sheet set w n m r count
+
+-- r is the result's round, whatever closed set stands in v
+abbrev pub LastRound : List ℕ → ℕ → ℕ → ℕ → Type 0
+LastRound v n m r = (sheet : Sheet) (set : List Configuration) → SetReady sheet set v n m → length (rounds sheet set) ≡ suc r
+
+-- the result's round comes after r
+abbrev pub LaterRound : List ℕ → ℕ → ℕ → ℕ → Type 0
+LaterRound v n m r = (sheet : Sheet) (set : List Configuration) → SetReady sheet set v n m → suc r < length (rounds sheet set)
+
+-- No more than `limit` rounds were made: r is the result's round, or the limit where the result's comes later; `last` says which.
+pub record RoundReached (v : List ℕ) (n m limit r : ℕ) (last : Bool) : Type 0 where
+  pub within : r ≤ limit
+  pub result : last ≡ true → LastRound v n m r
+  pub later : last ≡ false → (r ≡ limit) × LaterRound v n m r
+
+-- with as many rounds as members allowed the result's is reached
+pub reached-last : {v : List ℕ} {n m : ℕ} {w : List ℕ} {r count : ℕ} {last : Bool} → Refined v n m w r count → RoundReached v n m n r last
+    → LastRound v n m r
+reached-last {v} {n} {m} {r = r} {last = last} R K = go (tested last)
+  where
+    go : Tested last → LastRound v n m r
+    go (passes e) = K .result e
+    go (fails e) = absurd (omega (arith, R .bounds, K .later e .0))
+
+-- nothing but the work places is changed
+pub refined-outside : {v : List ℕ} {n m : ℕ} {w : List ℕ} {r count : ℕ} → Refined v n m w r count → SameOutside 0 workEnd v w
+refined-outside {v} {w = w} R = record { long = R .long; at = λ k o. side k o }
+  where
+    side : (k : ℕ) → (k < 0) ⊎ (workEnd ≤ k) → getD w k 0 ≡ getD v k 0
+    side k (inl h) = absurd (omega arith)
+    side k (inr h) = R .at-end k h
 
 -- ---- what holds after each round
 -- the member at place i and the chosen one of its class are ready in the present classes, and have the same lines
@@ -121,7 +153,6 @@ rounds-held-same {sheet} {set} {v} {w} {n} {m} {r} {count} H s h C =
           (λ c l. ap (λ (x : ℕ). x / 65536) (h (birthsAt + c) (omega arith) (omega arith)))
           (λ c l. ap (λ (x : ℕ). x % 65536) (h (birthsAt + c) (omega arith) (omega arith)))
           (λ i l. ap (λ (z : List ℕ). getD z i 0) e);
-      last = H .last;
       classed = C;
     }
 
@@ -323,6 +354,9 @@ module _ (v : List ℕ) (n m : ℕ) (w ws : List ℕ) (width : ℕ) (list : List
       end-here : (k : ℕ) → workEnd ≤ k → getD x k 0 ≡ getD v k 0
       end-here k h = Z .only .at k (inr (omega arith)) ∙ L .only .at-end k h ∙ G .at-end k h
 
+      back-set : (y : List ℕ) → Restored x count n y → SameSet v y
+      back-set y B = same-set-trans same-here (same-set-high (omega arith) (B .only))
+
       module _ (sheet : Sheet) (set : List Configuration) (R : SetReady sheet set v n m) where
         S : Stage sheet set u n m r count
         S = stage sheet set R
@@ -339,6 +373,16 @@ module _ (v : List ℕ) (n m : ℕ) (w ws : List ℕ) (width : ℕ) (list : List
         sharing-here : Sharing sheet (R .wf) set (R .closed) (classesIn w n) r
         unfolding here ready-same
         sharing-here = present-round sheet set w n m count r (here sheet set R) (now sheet set R .present)
+
+        -- each round up to the one after r had a birth, where a class was split
+        births-here : count < next → (q : ℕ) → q < r + 1 → (c : ℕ) × (c < next) × (bornIn x c ≡ suc q)
+        births-here more q l = go (tested (eqb q r))
+          where
+            go : Tested (eqb q r) → (c : ℕ) × (c < next) × (bornIn x c ≡ suc q)
+            go (passes e) = (count, more, Z .new-births count (omega arith) more .0 ∙ add-one r ∙ ap suc (sym (eqb-true q r e)))
+            go (fails e) =
+                let z = now sheet set R .births q (omega (arith, eqb-false q r e)) in
+                (z .0, omega (arith, z .1), old-birth (z .0) (z .1) ∙ z .2)
 
         -- ---- y has other chosen members, and lists those whose lines can change
         module _ (y next-list : List ℕ) (total : ℕ) (N : NextListed x us width n count list k y next-list total) (more : count < next) where
@@ -525,22 +569,9 @@ module _ (v : List ℕ) (n m : ℕ) (w ws : List ℕ) (width : ℕ) (list : List
             present = present-there;
             kept = kept-there;
             rest = rest-there;
-            births = λ q l. born q l (tested (eqb q r));
+            births = λ q l.
+                let z = births-here more q l in (z .0, z .1, ap (λ (a : ℕ). a % 65536) (birth-there (z .0) (z .1)) ∙ z .2);
           }
-            where
-              born : (q : ℕ) → q < r + 1 → Tested (eqb q r) → (c : ℕ) × (c < next) × (bornIn y c ≡ suc q)
-              born q l (passes e) = (
-                count,
-                more,
-                ap (λ (z : ℕ). z % 65536) (birth-there count more) ∙ Z .new-births count (omega arith) more .0 ∙ add-one r
-                    ∙ ap suc (sym (eqb-true q r e)),
-              )
-              born q l (fails e) =
-                  let z = now sheet set R .births q (omega (arith, eqb-false q r e)) in (
-                    z .0,
-                    omega (arith, z .1),
-                    ap (λ (a : ℕ). a % 65536) (birth-there (z .0) (omega (arith, z .1))) ∙ old-birth (z .0) (z .1) ∙ z .2,
-                  )
 
         -- ---- no class was split
         module _ (same : next ≡ count) where
@@ -580,15 +611,54 @@ module _ (v : List ℕ) (n m : ℕ) (w ws : List ℕ) (width : ℕ) (list : List
               (subst (λ (y : Configuration). Round (transitions sheet) (suc r) y (getD set j nobody)) (place p kp) g)
 
           held-last : Classed x n count → RoundsHeld sheet set x n m r count
-          held-last C = record {
-            ready = ready-last;
-            present = listed;
-            last = present-result sheet set (R .wf) (R .closed) (fromIn x) (bornIn x) count r (classOf set (classesIn x n))
-                (places-present sheet set nobody (R .wf) (fromIn x) (bornIn x) count r (classesIn x n) listed)
-                (classesIn x n) (λ p k. refl) (omega (arith, size, R .some)) stable
-                (λ q l. let y = now sheet set R .births q l in (y .0, y .1, old-birth (y .0) (y .1) ∙ y .2));
-            classed = C;
-          }
+          held-last C = record { ready = ready-last; present = listed; classed = C }
+
+          result-here : length (rounds sheet set) ≡ suc r
+          result-here =
+              present-result sheet set (R .wf) (R .closed) (fromIn x) (bornIn x) count r (classOf set (classesIn x n))
+              (places-present sheet set nobody (R .wf) (fromIn x) (bornIn x) count r (classesIn x n) listed)
+              (classesIn x n) (λ p k. refl) (omega (arith, size, R .some)) stable
+              (λ q l. let y = now sheet set R .births q l in (y .0, y .1, old-birth (y .0) (y .1) ∙ y .2))
+
+        -- ---- y has the classes from before the split again
+        module _ (y : List ℕ) (B : Restored x count n y) where
+          back-ready : SetReady sheet set y n m
+          back-ready = ready-same R (back-set y B)
+
+          back-birth : (c : ℕ) → c < count → getD y (birthsAt + c) 0 ≡ getD u (birthsAt + c) 0
+          back-birth c l = B .only .at (birthsAt + c) (inr (omega arith)) ∙ Z .old-births c l
+
+          back-class : (i : ℕ) → i < n → classIn y i ≡ classIn u i
+          back-class i l = B .done i l ∙ go (tested (ltb (classIn x i) count))
+            where
+              go : Tested (ltb (classIn x i) count) → formerIn x count (classIn x i) ≡ classIn u i
+              go (passes e) = let b = ltb-true (classIn x i) count e in former-own x count (classIn x i) b ∙ Z .kept i l b
+              go (fails e) = let b = ltb-false (classIn x i) count e in former-from x count (classIn x i) b ∙ Z .came i l b
+
+          held-back : Classed y n count → RoundsHeld sheet set y n m r count
+          held-back C =
+              record {
+                ready = back-ready;
+                present = present-listed sheet set y n m count r (back-ready .held)
+                    (present-alike (λ (i : ℕ). i < length set) (TogetherHeld sheet set) (fromIn u) (bornIn u) (fromIn y) (bornIn y) count r
+                    (classIn u) (classIn y) (S .present) (λ c l. ap (λ (z : ℕ). z / 65536) (back-birth c l))
+                    (λ c l. ap (λ (z : ℕ). z % 65536) (back-birth c l)) (λ i l. back-class i (omega (arith, size))));
+                classed = C;
+              }
+
+        -- the split was a birth in the round after r, so the result's round is not r
+        result-later : count < next → suc r < length (rounds sheet set)
+        result-later more =
+            let listed : PresentAt sheet set nobody (fromIn x) (bornIn x) next (r + 1) (classesIn x n) =
+            present-listed sheet set x n m next (r + 1) (ready-same R same-here .held) (next-present S A) in
+            let early = present-early sheet set (R .wf) (R .closed) (fromIn x) (bornIn x) next (r + 1) (classOf set (classesIn x n))
+            (places-present sheet set nobody (R .wf) (fromIn x) (bornIn x) next (r + 1) (classesIn x n) listed)
+            (classesIn x n) (λ p k. refl) (omega (arith, size, R .some)) (births-here more) in
+            go early (tested (ltb (resultOf (rounds sheet set)) (r + 1)))
+          where
+            go : (resultOf (rounds sheet set) < r + 1 → ⊥) → Tested (ltb (resultOf (rounds sheet set)) (r + 1)) → suc r < length (rounds sheet set)
+            go early (passes e) = absurd (early (ltb-true (resultOf (rounds sheet set)) (r + 1) e))
+            go early (fails e) = omega (arith, ltb-false (resultOf (rounds sheet set)) (r + 1) e)
 
       pub refining-next : (next ≡ count → ⊥) → (y next-list : List ℕ) (total : ℕ) → NextListed x us width n count list k y next-list total
           → Refining v n m y us width next-list total (r + 1) next
@@ -602,13 +672,49 @@ module _ (v : List ℕ) (n m : ℕ) (w ws : List ℕ) (width : ℕ) (list : List
             now = λ sheet set R. now-next sheet set R y next-list total N more;
           }
 
-      pub refining-last : next ≡ count → Refined v n m x r count
+      pub refining-last : next ≡ count → Refined v n m x r count × LastRound v n m r
       refining-last e =
-          let C : Classed x n count = subst (Classed x n) e (Z .classed) in record {
-            long = same-here .long;
-            at-end = end-here;
-            same-set = same-here;
-            classed = C;
-            bounds = (G .early, classed-count C);
-            rounds-held = λ sheet set R. held-last sheet set R e C;
-          }
+          let C : Classed x n count = subst (Classed x n) e (Z .classed) in (
+            record {
+              long = same-here .long;
+              at-end = end-here;
+              same-set = same-here;
+              classed = C;
+              bounds = (G .early, classed-count C);
+              rounds-held = λ sheet set R. held-last sheet set R e C;
+            },
+            (λ sheet set R. result-here sheet set R e),
+          )
+
+      -- the classes from before the split, where it is one round too many
+      pub refining-stopped : (next ≡ count → ⊥) → (y : List ℕ) → Restored x count n y → Refined v n m y r count × LaterRound v n m r
+      refining-stopped d y B =
+          let C : Classed y n count = record { known = known; chosen-in = λ c l. chosen c l .0; chosen-of = λ c l. chosen c l .1 } in (
+            record {
+              long = back-set y B .long;
+              at-end = λ k h. B .only .at k (inr (omega arith)) ∙ end-here k h;
+              same-set = back-set y B;
+              classed = C;
+              bounds = (G .early, classed-count C);
+              rounds-held = λ sheet set R. held-back sheet set R y B C;
+            },
+            (λ sheet set R. result-later sheet set R (omega (arith, Z .more))),
+          )
+        where
+          known : (i : ℕ) → i < n → classIn y i < count
+          known i l = go (tested (ltb (classIn x i) count))
+            where
+              go : Tested (ltb (classIn x i) count) → classIn y i < count
+              go (passes e) = let b = ltb-true (classIn x i) count e in omega (arith, B .done i l, former-own x count (classIn x i) b)
+              go (fails e) =
+                  let b = ltb-false (classIn x i) count e in
+                  omega (arith, B .done i l, former-from x count (classIn x i) b, Z .new-births (classIn x i) b (Z .classed .known i l) .1)
+
+          chosen : (c : ℕ) → c < count → (chosenIn y c < n) × (classIn y (chosenIn y c) ≡ c)
+          chosen c l =
+              let e : chosenIn y c ≡ chosenIn x c = B .only .at (chosenAt + c) (inr (omega arith)) in
+              let there : chosenIn x c < n = Z .classed .chosen-in c (omega (arith, Z .more)) in
+              let own : classIn x (chosenIn x c) ≡ c = Z .classed .chosen-of c (omega (arith, Z .more)) in (
+                omega (arith, e),
+                ap (classIn y) e ∙ B .done (chosenIn x c) there ∙ ap (formerIn x count) own ∙ former-own x count c l,
+              )

@@ -4,8 +4,9 @@ use mathlib.Core.Bool.{Bool, cond, not, _&&_}
 use mathlib.Core.List.{List, [], _∷_, _++_}
 use Prim.Native.Nat.{ℕ, suc}
 use lib.ListN.{length, getD}
-use lib.Dec.{eqb}
+use lib.Dec.{eqb, ltb}
 use Rattle.sheets.specs.Sheet.{Configuration}
+use Rattle.lists.specs.Lists.{arrange}
 use Rattle.moves.specs.Orders.{configurationBefore}
 
 module _ {A : Type 0} where
@@ -39,3 +40,7 @@ classOf set classes p = getD classes (placeOf set p) 0
 -- p and q share a class
 abbrev pub share : List Configuration → List ℕ → Configuration → Configuration → Bool
 share set classes p q = eqb (classOf set classes p) (classOf set classes q)
+
+-- how many classes these numbers stand for: each number counts once
+abbrev pub classTotal : List ℕ → ℕ
+classTotal numbers = length (arrange ltb numbers)

@@ -15,6 +15,7 @@ use Rattle.moves.specs.Orders.{Move, configurationBefore, moveBefore}
 use Rattle.moves.specs.Moves.{moves, Moves}
 use Rattle.comparison.specs.CallLimits.{Limits, workLength}
 use Rattle.comparison.specs.Set.{explored}
+use Rattle.comparison.specs.Outcome.{workRefused}
 use Rattle.comparison.specs.Classes.{share}
 use Rattle.comparison.specs.Trail as trail
 use Rattle.comparison.specs.Trail.{TrailStep}
@@ -82,17 +83,21 @@ pub data Walkable (sheet : Sheet) : ℕ → Configuration → Configuration → 
       → Telling sheet r q p a t → Replied sheet p a t k n → n ≤ r → Walkable sheet n (k .target) t steps
       → Walkable sheet (suc r) p q (record { side = trail.right; label = a; target = t; reply = trail.move k } ∷ steps)
 
--- What the members and the classes of an answer say of the set that grows from the seeds.
-pub record Classified (sheet : Sheet) (seeds members : List Configuration) (numbers : List ℕ) : Type 1 where
+-- What the members of an answer say of the set that grows from the seeds, and how their classes are numbered.
+pub record SetListed (sheet : Sheet) (seeds members : List Configuration) (numbers : List ℕ) : Type 0 where
   -- the set is listed whole, each member once and in its order
   pub ordered : Ascends configurationBefore members
   pub whole : (x : Configuration) → List·Memᴰ x members ↔ Member (transitions sheet) seeds x
-  -- two members share a class exactly when a saturated barbed bisimulation contains the two as a pair
-  pub classes : (x y : Configuration) → List·Memᴰ x members → List·Memᴰ y members
-      → (share members numbers x y ≡ true) ↔ Bisimilar (transitions sheet) x y
   -- each member has a class, and classes are numbered from 0 by first member
   pub classed : length numbers ≡ length members
   pub numbering : NumberedByFirst numbers
+
+-- The same with the classes of bisimilarity.
+pub record Classified (sheet : Sheet) (seeds members : List Configuration) (numbers : List ℕ) : Type 1 where
+  pub set : SetListed sheet seeds members numbers
+  -- two members share a class exactly when a saturated barbed bisimulation contains the two as a pair
+  pub classes : (x y : Configuration) → List·Memᴰ x members → List·Memᴰ y members
+      → (share members numbers x y ≡ true) ↔ Bisimilar (transitions sheet) x y
 
 -- What a report on two starts p and q says. Demand 3, sentence by sentence.
 pub record Faithful (sheet : Sheet) (p q : Configuration) (r : Report) : Type 1 where
@@ -153,6 +158,23 @@ pub record GivesBy {A : Type 0} (Is : Sheet → Type 0) (l : Limits) (seeds : Sh
   pub no-limit : PassesLimit sheet l (seeds sheet) → ⊥
   pub answer-room : size a ≤ answer
   pub given : a ≡ made sheet
+
+-- What goes with a refusal, where the work slice v became w and the answer slice `before` became `after`: its condition holds, the answer
+-- slice is untouched, and the work slice is cleared after 21 and 22 and untouched after any other.
+pub record RefusalBy (Refuses : ℕ → ℕ → ℕ → ℕ → Type 0) (v before w after : List ℕ) (number place : ℕ) : Type 0 where
+  pub refuses : Refuses (length v) (length before) number place
+  pub untouched : after ≡ before
+  pub work : w ≡ workRefused number v
+
+-- What was returned, `answer`: each refusal under its condition and no other, and otherwise `of` what the call gives; `Made` says what
+-- goes with that.
+pub record PromiseBy {A X R : Type 0} (refuse : ℕ → ℕ → R) (Refuses : ℕ → ℕ → ℕ → ℕ → Type 0) (give : X → R) (of : A → X)
+    (Gives : ℕ → ℕ → A → Type 0) (Made : List ℕ → List ℕ → List ℕ → List ℕ → X → Type 1) (v before w after : List ℕ) (answer : R)
+    : Type 1 where
+  pub refused : (number place : ℕ) → answer ≡ refuse number place → RefusalBy Refuses v before w after number place
+  pub to-refuse : (number place : ℕ) → Refuses (length v) (length before) number place → answer ≡ refuse number place
+  pub made : (x : X) → answer ≡ give x → Made v before w after x
+  pub to-give : (a : A) → Gives (length v) (length before) a → answer ≡ give (of a)
 
 -- ---- the comparing call
 -- the report on two starts of a sheet, with the set that grows from them

@@ -1,9 +1,8 @@
 -- The whole call: a report is faithful, and each refusal is given under its condition and no other, in document 01's order.
 use mathlib.Core.Path.{_≡_, refl, sym, subst}
 use mathlib.Core.Logic.{_↔_}
-use mathlib.Core.Bool.{true}
 use mathlib.Core.List.{List, [], List·Memᴰ·head}
-use Prim.Native.Nat.{ℕ, _≤_, _<_}
+use Prim.Native.Nat.{ℕ, _≤_}
 use native.Mathlib.Omega.{arith}
 use lib.ListN.{length}
 use Rattle.list_laws.specs.ListPlaces.{getD-in}
@@ -13,8 +12,8 @@ use Rattle.sheets.specs.SheetBytes.{ChoiceIs, ChoiceRefused}
 use Rattle.sheet_reading.specs.Reading.{readChoice}
 use Rattle.sheet_reading.specs.SheetRead.{choice-reads}
 use Rattle.sheet_laws.specs.ReadingLaws.{written-admissible}
-use Rattle.comparison.specs.CallLimits.{Limits, workLength, reportRoom}
-use Rattle.comparison.specs.Set.{explored, fits}
+use Rattle.comparison.specs.CallLimits.{Limits, reportRoom}
+use Rattle.comparison.specs.Set.{explored}
 use Rattle.comparison.specs.Report.{Report, reportOn, reportBytes, reportLength, Compares}
 use Rattle.comparison.specs.Outcome.{reported, refusal}
 use Rattle.comparison.specs.Call.{compareWith}
@@ -24,17 +23,6 @@ use Rattle.comparison_laws.specs.ResultLaws.{result-is, rounds-of}
 use Rattle.comparison_laws.specs.ReportLaws.{report-room-within}
 use Rattle.comparison_laws.specs.FrameTheorem.{Decides, frame-decides, frame-refuses, frame-gives}
 use Rattle.comparison_laws.specs.Theorem.{member-some, report-faithful}
-
--- the room named by the limits suffices for a report on two starts
-starts-room : (sheet : Sheet) → WellFormed sheet → (l : Limits) (left right : ℕ)
-    → fits sheet l (explored sheet l (startsOf sheet left right)) ≡ true → reportLength (reportFor l sheet left right) ≤ reportRoom l
-starts-room sheet wf l left right fit =
-    let set : List Configuration = explored sheet l (startsOf sheet left right) in
-    let within = fits-not-over sheet l (startsOf sheet left right) fit in
-    let closed = explored-closed sheet l (startsOf sheet left right) within in
-    let some = member-some set (explored-seeds sheet l (startsOf sheet left right) (start sheet left) (List·Memᴰ·head refl)) in
-    report-room-within sheet l set (start sheet left) (start sheet right) within
-    (omega (arith, result-is sheet set wf closed some .few, rounds-of sheet set wf closed some .some))
 
 -- what a call gives
 abbrev pub Gives : Limits → List ℕ → ℕ → ℕ → ℕ → ℕ → Compares → Type 0
@@ -81,17 +69,21 @@ module _ (l : Limits) (bytes : List ℕ) (left right work answer : ℕ) where
       frame-gives (ChoiceIs bytes left right) (ChoiceRefused bytes left right) (length bytes) (readChoice bytes left right) (choice-reads bytes left right)
       l (λ sheet. startsOf sheet left right) (reportMade left right) reportBytes work answer
 
--- ---- the room that the limits name suffices for every report
+-- ---- the room that the limits name
+-- it suffices for the report that a sheet and a choice ask for
+pub report-room : (l : Limits) (bytes : List ℕ) (left right : ℕ) (sheet : Sheet) → ChoiceIs bytes left right sheet
+    → (PassesLimit sheet l (startsOf sheet left right) → ⊥) → reportLength (reportFor l sheet left right) ≤ reportRoom l
+report-room l bytes left right sheet c none =
+    let wf : WellFormed sheet = written-admissible bytes sheet (c .written) .well-formed in
+    let set : List Configuration = explored sheet l (startsOf sheet left right) in
+    let within = fits-not-over sheet l (startsOf sheet left right) (fits-unpassed sheet l (startsOf sheet left right) none) in
+    let closed = explored-closed sheet l (startsOf sheet left right) within in
+    let some = member-some set (explored-seeds sheet l (startsOf sheet left right) (start sheet left) (List·Memᴰ·head refl)) in
+    report-room-within sheet l set (start sheet left) (start sheet right) within
+    (omega (arith, result-is sheet set wf closed some .few, rounds-of sheet set wf closed some .some))
+
+-- and so for every report of the call
 pub room-suffices : (l : Limits) (bytes : List ℕ) (left right work answer : ℕ) (r : Report) → Reports l bytes left right work answer r
     → reportLength r ≤ reportRoom l
 room-suffices l bytes left right work answer r g =
-    let sheet : Sheet = g .sheet in
-    subst (λ (x : Report). reportLength x ≤ reportRoom l) (sym (g .given))
-    (starts-room sheet (written-admissible bytes sheet (g .read .written) .well-formed) l left right (fits-unpassed sheet l (startsOf sheet left right) (g .no-limit)))
-
--- an answer slice with that room is never too short
-pub never-short : (l : Limits) (bytes : List ℕ) (left right work answer place : ℕ) → reportRoom l ≤ answer
-    → (sheet : Sheet) → ChoiceIs bytes left right sheet → workLength ≤ work
-    → (PassesLimit sheet l (startsOf sheet left right) → ⊥) → answer < reportLength (reportFor l sheet left right) → ⊥
-never-short l bytes left right work answer place room sheet e w n h =
-    omega (arith, starts-room sheet (written-admissible bytes sheet (e .written) .well-formed) l left right (fits-unpassed sheet l (startsOf sheet left right) n))
+    subst (λ (x : Report). reportLength x ≤ reportRoom l) (sym (g .given)) (report-room l bytes left right (g .sheet) (g .read) (g .no-limit))

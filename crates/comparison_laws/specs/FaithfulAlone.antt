@@ -1,23 +1,24 @@
 -- The promise fixes the report: of a sheet and two starts, two reports that are faithful are one.
-use mathlib.Core.Path.{_≡_, refl, sym, ap, ap₂, _∙_}
+use mathlib.Core.Path.{_≡_, refl, sym, ap, ap₂, _∙_, subst}
 use mathlib.Core.Logic.{_⊎_, inl, inr}
-use mathlib.Core.List.{List}
+use mathlib.Core.Bool.{true}
+use mathlib.Core.List.{List, [], List·Memᴰ}
 use Prim.Native.Nat.{ℕ, zero, suc, _<_}
 use native.Mathlib.Omega.{arith}
 use lib.ListN.{length, getD}
 use lib.Seq.{ext-getD}
-use borrow.Author.Tests.{eqb-true, eq-eqb}
 use Rattle.list_laws.specs.TestLaws.{neither-below}
 use Rattle.list_laws.specs.AscendingLaws.{ascends-unique}
 use Rattle.list_laws.specs.ListPlaces.{getD-in}
 use Rattle.sheets.specs.Sheet.{Configuration, Sheet}
 use Rattle.move_laws.specs.OrderLaws.{configurationOrder}
-use Rattle.refinement.specs.Refinement.{Level, Bisimilar}
+use Rattle.refinement.specs.Refinement.{Level}
 use Rattle.comparison.specs.SheetTransitions.{transitions}
+use Rattle.comparison.specs.Classes.{share}
 use Rattle.comparison.specs.Trail.{TrailStep}
 use Rattle.comparison.specs.Report.{Verdict, SAME, DIFF, Report}
-use Rattle.comparison.specs.Promise.{ResultRound, NumberedByFirst, Faithful}
-use Rattle.comparison_laws.specs.MemberPlaces.{places-apart, place-of-member}
+use Rattle.comparison.specs.Promise.{ResultRound, NumberedByFirst, SetListed, Faithful}
+use Rattle.comparison_laws.specs.MemberPlaces.{places-apart, share-places}
 use Rattle.comparison_laws.specs.TrailAlone.{one-first, trail-alone}
 use Rattle.comparison_laws.specs.Theorem.{same-not-diff}
 
@@ -47,38 +48,45 @@ module _ (c d : List ℕ) (by-c : NumberedByFirst c) (by-d : NumberedByFirst d) 
   numbers-one : c ≡ d
   numbers-one = ext-getD 0 c d long (λ i l. number-one (suc i) i (omega arith) l)
 
+-- ---- a set that is listed twice
+module _ {sheet : Sheet} {seeds ms ns : List Configuration} {cs ds : List ℕ} (a : SetListed sheet seeds ms cs) (b : SetListed sheet seeds ns ds) where
+  -- the members are one list
+  pub members-one : ms ≡ ns
+  members-one =
+      ascends-unique configurationOrder ms ns (a .ordered) (b .ordered) (λ x m. b .whole x .1 (a .whole x .0 m)) (λ x m. a .whole x .1 (b .whole x .0 m))
+
+  -- there are as many class numbers
+  pub as-many : length cs ≡ length ds
+  as-many = a .classed ∙ ap length members-one ∙ sym (b .classed)
+
+  -- where members that share a class of the first share one of the second, equal numbers of the first are equal in the second
+  pub finer-places : ((x y : Configuration) → List·Memᴰ x ms → List·Memᴰ y ms → share ms cs x y ≡ true → share ns ds x y ≡ true)
+      → (i j : ℕ) → i < length cs → j < length cs → getD cs i 0 ≡ getD cs j 0 → getD ds i 0 ≡ getD ds j 0
+  finer-places f i j l k e =
+      let d : Configuration = record { store = 0; threads = [] } in
+      let li : i < length ms = omega (arith, l, a .classed) in
+      let lj : j < length ms = omega (arith, k, a .classed) in
+      let h = f (getD ms i d) (getD ms j d) (getD-in ms i d li) (getD-in ms j d lj) (share-places ms (a .ordered) cs d i j li lj .1 e) in
+      share-places ns (b .ordered) ds d i j (omega (arith, li, ap length members-one)) (omega (arith, lj, ap length members-one)) .0
+      (subst (λ (set : List Configuration). share ns ds (getD set i d) (getD set j d) ≡ true) members-one h)
+
+-- the classes are one list where the same members share one
+pub classes-one : {sheet : Sheet} {seeds ms ns : List Configuration} {cs ds : List ℕ} → SetListed sheet seeds ms cs → SetListed sheet seeds ns ds
+    → ((x y : Configuration) → List·Memᴰ x ms → List·Memᴰ y ms → share ms cs x y ≡ true → share ns ds x y ≡ true)
+    → ((x y : Configuration) → List·Memᴰ x ns → List·Memᴰ y ns → share ns ds x y ≡ true → share ms cs x y ≡ true) → cs ≡ ds
+classes-one {cs = cs} {ds} a b there back =
+    numbers-one cs ds (a .numbering) (b .numbering) (as-many a b) (finer-places a b there)
+    (λ i j l k. finer-places b a back i j (omega (arith, l, as-many a b)) (omega (arith, k, as-many a b)))
+
 -- ---- the report
+-- the result's round is one
+pub one-result : {sheet : Sheet} {seeds : List Configuration} {n m : ℕ} → ResultRound sheet seeds n → ResultRound sheet seeds m → n ≡ m
+one-result {n = n} {m} x y = neither-below n m (λ h. y .first n h (x .stable)) (λ h. x .first m h (y .stable))
+
 module _ (sheet : Sheet) (p q : Configuration) where
-  -- the result's round is one
-  one-result : {n m : ℕ} {seeds : List Configuration} → ResultRound sheet seeds n → ResultRound sheet seeds m → n ≡ m
-  one-result {n} {m} x y = neither-below n m (λ h. y .first n h (x .stable)) (λ h. x .first m h (y .stable))
-
-  -- two members at places share a class exactly when they are bisimilar
-  module _ (r : Report) (a : Faithful sheet p q r) where
-    abbrev memberAt : ℕ → Configuration
-    memberAt i = getD (r .members) i p
-
-    share-at : (i j : ℕ) → i < length (r .members) → j < length (r .members) → getD (r .classes) i 0 ≡ getD (r .classes) j 0
-        → Bisimilar (transitions sheet) (memberAt i) (memberAt j)
-    share-at i j l k e =
-        a .listed .classes (memberAt i) (memberAt j) (getD-in (r .members) i p l) (getD-in (r .members) j p k) .0
-        (rw (place-of-member (r .members) (a .listed .ordered) p i l, place-of-member (r .members) (a .listed .ordered) p j k) (eq-eqb _ _ e))
-
-    at-share : (i j : ℕ) → i < length (r .members) → j < length (r .members) → Bisimilar (transitions sheet) (memberAt i) (memberAt j)
-        → getD (r .classes) i 0 ≡ getD (r .classes) j 0
-    at-share i j l k h =
-        let t = a .listed .classes (memberAt i) (memberAt j) (getD-in (r .members) i p l) (getD-in (r .members) j p k) .1 h in
-        let u = rw (place-of-member (r .members) (a .listed .ordered) p i l, place-of-member (r .members) (a .listed .ordered) p j k) at t in
-        eqb-true (getD (r .classes) i 0) (getD (r .classes) j 0) u
-
   module _ (r s : Report) (a : Faithful sheet p q r) (b : Faithful sheet p q s) where
-    members-one : r .members ≡ s .members
-    members-one =
-        ascends-unique configurationOrder (r .members) (s .members) (a .listed .ordered) (b .listed .ordered)
-        (λ x m. b .listed .whole x .1 (a .listed .whole x .0 m)) (λ x m. a .listed .whole x .1 (b .listed .whole x .0 m))
-
-    many-one : length (r .members) ≡ length (s .members)
-    many-one = ap length members-one
+    same-members : r .members ≡ s .members
+    same-members = members-one (a .listed .set) (b .listed .set)
 
     verdict-one : r .verdict ≡ s .verdict
     verdict-one = go (r .verdict) (s .verdict) refl refl
@@ -103,28 +111,25 @@ module _ (sheet : Sheet) (p q : Configuration) where
         go SAME e = a .trail-none e ∙ sym (b .trail-none (sym verdict-one ∙ e))
         go DIFF e = trail-alone sheet (a .trail-walks e) (b .trail-walks (sym verdict-one ∙ e))
 
-    same-member : (i : ℕ) → getD (s .members) i p ≡ getD (r .members) i p
-    same-member i = ap (λ (l : List Configuration). getD l i p) (sym members-one)
-
-    classes-one : r .classes ≡ s .classes
-    classes-one =
-        numbers-one (r .classes) (s .classes) (a .listed .numbering) (b .listed .numbering) (a .listed .classed ∙ many-one ∙ sym (b .listed .classed))
-        (λ i j l k e. at-share s b i j (inside i l) (inside j k) (rw (same-member i, same-member j) (share-at r a i j (own i l) (own j k) e)))
-        (λ i j l k e. at-share r a i j (own i l) (own j k) (rw (sym (same-member i), sym (same-member j)) (share-at s b i j (inside i l) (inside j k) e)))
+    same-classes : r .classes ≡ s .classes
+    same-classes =
+        classes-one (a .listed .set) (b .listed .set)
+        (λ x y mx my h. b .listed .classes x y (there mx) (there my) .1 (a .listed .classes x y mx my .0 h))
+        (λ x y mx my h. a .listed .classes x y (back mx) (back my) .1 (b .listed .classes x y mx my .0 h))
       where
-        own : (i : ℕ) → i < length (r .classes) → i < length (r .members)
-        own i l = omega (arith, l, a .listed .classed)
+        there : {x : Configuration} → List·Memᴰ x (r .members) → List·Memᴰ x (s .members)
+        there {x} m = b .listed .set .whole x .1 (a .listed .set .whole x .0 m)
 
-        inside : (i : ℕ) → i < length (r .classes) → i < length (s .members)
-        inside i l = omega (arith, l, a .listed .classed, many-one)
+        back : {x : Configuration} → List·Memᴰ x (s .members) → List·Memᴰ x (r .members)
+        back {x} m = a .listed .set .whole x .1 (b .listed .set .whole x .0 m)
 
     -- a start stands at one place
     place-one : (x : Configuration) (i j : ℕ) → i < length (r .members) → getD (r .members) i x ≡ x → j < length (s .members) → getD (s .members) j x ≡ x → i ≡ j
     place-one x i j l e k f =
-        let here : getD (r .members) j x ≡ x = ap (λ (m : List Configuration). getD m j x) members-one ∙ f in
+        let here : getD (r .members) j x ≡ x = ap (λ (m : List Configuration). getD m j x) same-members ∙ f in
         neither-below i j
-        (λ h. places-apart (r .members) (a .listed .ordered) x i j h (omega (arith, k, many-one)) (e ∙ sym here))
-        (λ h. places-apart (r .members) (a .listed .ordered) x j i h l (here ∙ sym e))
+        (λ h. places-apart (r .members) (a .listed .set .ordered) x i j h (omega (arith, k, ap length same-members)) (e ∙ sym here))
+        (λ h. places-apart (r .members) (a .listed .set .ordered) x j i h l (here ∙ sym e))
 
     left-one : r .leftPlace ≡ s .leftPlace
     left-one = place-one p (r .leftPlace) (s .leftPlace) (a .left-place .0) (a .left-place .1) (b .left-place .0) (b .left-place .1)
@@ -139,7 +144,7 @@ faithful-alone sheet p q r s a b =
     (verdict-one sheet p q r s a b) (round-one sheet p q r s a b)
     ∙ ap₂ (λ (i j : ℕ). built (s .verdict) (s .round) i j (r .members) (r .classes) (r .steps)) (left-one sheet p q r s a b) (right-one sheet p q r s a b)
     ∙ ap₂ (λ (m : List Configuration) (c : List ℕ). built (s .verdict) (s .round) (s .leftPlace) (s .rightPlace) m c (r .steps))
-    (members-one sheet p q r s a b) (classes-one sheet p q r s a b)
+    (same-members sheet p q r s a b) (same-classes sheet p q r s a b)
     ∙ ap (λ (t : List TrailStep). built (s .verdict) (s .round) (s .leftPlace) (s .rightPlace) (s .members) (s .classes) t) (steps-one sheet p q r s a b)
   where
     built : Verdict → ℕ → ℕ → ℕ → List Configuration → List ℕ → List TrailStep → Report

@@ -19,6 +19,7 @@ use Rattle.comparison.specs.Outcome.{Outcome, reported, refusal}
 use Rattle.comparison.specs.Frame.{withRoom, withSet, withWork, withSheet}
 use Rattle.comparison.specs.Promise.{PassesLimit, RefusesBy, by-sheet, short-work, large-set, short-answer, GivesBy}
 use Rattle.comparison_laws.specs.SetLaws.{fits-exactly, fits-unpassed}
+use Rattle.comparison_laws.specs.RoomLaws.{room-short, room-given}
 
 -- an outcome under its condition
 pub data Decides {A : Type 0} (Refuses : ℕ → ℕ → Type 0) (Gives : A → Type 0) : Outcome A → Type 0 where
@@ -97,23 +98,17 @@ module _ {A : Type 0} (Is : Sheet → Type 0) (Not : ℕ → ℕ → Type 0) (si
       work-call sheet e (le-ltb work workLength w)
       ∙ ap (λ (b : Bool). elim b as (λ _. Outcome A) [ true ↦ withRoom bytes answer (made sheet) | false ↦ refusal largeSet 0 ]) h
 
-  room-call : (sheet : Sheet) → Is sheet → workLength ≤ work → (PassesLimit sheet l (seeds sheet) → ⊥) → {b : Bool} → ltb answer (needed sheet) ≡ b
-      → framed ≡ cond b (refusal shortAnswer (needed sheet)) (reported (made sheet))
-  room-call sheet e w n h =
-      set-call sheet e w (fits-unpassed sheet l (seeds sheet) n)
-      ∙ ap (λ (b : Bool). cond b (refusal shortAnswer (needed sheet)) (reported (made sheet))) h
-
   refuses-call : {number place : ℕ} → Refused number place → framed ≡ refusal number place
   refuses-call {number} {place} (by-sheet e) =
       ap (λ (r : Reading Sheet). withSheet r (λ sheet. withWork work (onSet sheet))) (reads .is-refused number place e)
   refuses-call (short-work sheet e w) = work-call sheet e (lt-ltb work workLength w)
   refuses-call (large-set sheet e w x) = set-call sheet e w (fits-exactly sheet l (seeds sheet) .1 x)
-  refuses-call (short-answer sheet e w n h) = room-call sheet e w n (lt-ltb answer (needed sheet) h)
+  refuses-call (short-answer sheet e w n h) = set-call sheet e w (fits-unpassed sheet l (seeds sheet) n) ∙ room-short bytes answer (made sheet) h
 
   gives-call : {a : A} → Given a → framed ≡ reported a
   gives-call g =
-      room-call (g .sheet) (g .read) (g .work-room) (g .no-limit)
-      (le-ltb answer (needed (g .sheet)) (subst (λ (a : A). length (bytes a) ≤ answer) (g .given) (g .answer-room)))
+      set-call (g .sheet) (g .read) (g .work-room) (fits-unpassed (g .sheet) l (seeds (g .sheet)) (g .no-limit))
+      ∙ room-given bytes answer (made (g .sheet)) (subst (λ (a : A). length (bytes a) ≤ answer) (g .given) (g .answer-room))
       ∙ ap reported (sym (g .given))
 
   refusal-given : {number place : ℕ} → Decides Refused Given (refusal number place) → Refused number place

@@ -10,6 +10,7 @@ pub mod TrailWalk
 pub mod TrailAlone
 pub mod ReportLaws
 pub mod Theorem
+pub mod RoomLaws
 pub mod FrameTheorem
 pub mod FaithfulAlone
 pub mod CallTheorem

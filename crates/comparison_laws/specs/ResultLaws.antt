@@ -4,7 +4,7 @@ use mathlib.Core.Path.{_≡_, refl, sym, ap, _∙_, subst}
 use mathlib.Core.Logic.{_⊎_, inl, inr, ⊎-elim}
 use mathlib.Core.Bool.{Bool, true, false}
 use mathlib.Core.List.{List, [], _∷_, List·Memᴰ}
-use Prim.Native.Nat.{ℕ, zero, suc, _+_, _≤_, _<_}
+use Prim.Native.Nat.{ℕ, zero, suc, _+_, _-_, _≤_, _<_}
 use native.Mathlib.Omega.{arith}
 use lib.ListN.{length, getD}
 use borrow.Author.Tests.{eqb-true, eq-eqb}
@@ -40,6 +40,16 @@ module _ (sheet : Sheet) (set : List Configuration) where
   pub classes-next : (n : ℕ) → classes sheet set (suc n) ≡ refined sheet set (classes sheet set n)
   unfolding classes
   classes-next n = refl
+
+  -- from a round that is equal to its successor on, all rounds are
+  pub classes-from : (n : ℕ) → classes sheet set (suc n) ≡ classes sheet set n → (k : ℕ) → n ≤ k → classes sheet set k ≡ classes sheet set n
+  classes-from n e k l = let s : k ≡ (k - n) + n = omega (arith, l) in ap (classes sheet set) s ∙ further (k - n)
+    where
+      further : (d : ℕ) → classes sheet set (d + n) ≡ classes sheet set n
+      further zero = let s : 0 + n ≡ n = omega arith in ap (classes sheet set) s
+      further (suc d) =
+          let s : suc d + n ≡ suc (d + n) = omega arith in
+          ap (classes sheet set) s ∙ classes-next (d + n) ∙ ap (refined sheet set) (further d) ∙ sym (classes-next n) ∙ e
 
   -- how many classes round n has
   pub count : ℕ → ℕ

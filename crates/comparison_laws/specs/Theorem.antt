@@ -1,6 +1,6 @@
 -- Demand 3, proved about the executable definitions: a report is faithful, for every sheet that is read, every choice of
 -- starts and every limits.
-use mathlib.Core.Path.{_≡_, refl, sym, ap, _∙_, subst}
+use mathlib.Core.Path.{_≡_, refl, sym, subst}
 use mathlib.Core.Logic.{_↔_, ⊎-elim}
 use mathlib.Core.Bool.{Bool, true, false, cond}
 use mathlib.Core.List.{List, [], _∷_, List·Memᴰ, List·Memᴰ·head, List·Memᴰ·tail, List·Memᴰ·not-nil, List·Memᴰ·cases-cons, List·Memᴰ·eq-of-singleton}
@@ -30,7 +30,7 @@ use Rattle.comparison_laws.specs.SetLaws.{explored-seeds, explored-membe
 use Rattle.comparison_laws.specs.ResultLaws.{classes-length, Result, result-is, classes-by-first, stable-classes, rounds-of, rounds-at}
 use Rattle.comparison_laws.specs.TrailLaws.{apart-le, trail-none}
 use Rattle.comparison_laws.specs.TrailWalk.{together-below, apart-first, trail-walkable}
-use Rattle.comparison.specs.Promise.{ResultRound, NumberedByFirst, Walkable, Classified, Faithful}
+use Rattle.comparison.specs.Promise.{ResultRound, Walkable, SetListed, Classified, Faithful}
 
 -- round m holds what round n holds, m up to n
 pub round-down : (sheet : Sheet) (m k : ℕ) (p q : Configuration) → Round (transitions sheet) (k + m) p q → Round (transitions sheet) m p q
@@ -56,14 +56,24 @@ module _ (sheet : Sheet) (wf : WellFormed sheet) (l : Limits) (seeds : List Conf
   pub whole : (x : Configuration) → List·Memᴰ x set ↔ Member T seeds x
   whole x = (explored-member sheet l seeds x, explored-complete sheet l seeds within x)
 
+  -- the set is listed whole with the classes of any round, numbered by first member
+  pub round-listed : (n : ℕ) → SetListed sheet seeds set (classes sheet set n)
+  round-listed n =
+      record {
+        ordered = explored-ascends sheet l seeds;
+        whole = whole;
+        classed = classes-length sheet set n;
+        numbering = classes-by-first sheet set n;
+      }
+
   -- equal class numbers of two rounds: the first splits no member
-  equal-stable : (n : ℕ) → classes sheet set (suc n) ≡ classes sheet set n → Stable T (lawful sheet wf) seeds n
+  pub equal-stable : (n : ℕ) → classes sheet set (suc n) ≡ classes sheet set n → Stable T (lawful sheet wf) seeds n
   equal-stable n e x y mx my h =
       share-round sheet wf set closed-set (suc n) x y (whole x .1 mx) (whole y .1 my) .0
       (subst (λ (c : List ℕ). share set c x y ≡ true) (sym e) (share-round sheet wf set closed-set n x y (whole x .1 mx) (whole y .1 my) .1 h))
 
   -- a round that splits no member has the class numbers of its successor
-  stable-equal : (n : ℕ) → Stable T (lawful sheet wf) seeds n → classes sheet set (suc n) ≡ classes sheet set n
+  pub stable-equal : (n : ℕ) → Stable T (lawful sheet wf) seeds n → classes sheet set (suc n) ≡ classes sheet set n
   stable-equal n st = stable-classes sheet set wf closed-set n (λ x y mx my h. st x y (whole x .0 mx) (whole y .0 my) h)
 
   module _ (some : 1 ≤ length set) where
@@ -96,17 +106,11 @@ module _ (sheet : Sheet) (wf : WellFormed sheet) (l : Limits) (seeds : List Conf
       first = λ m k st. result .first m k (stable-equal m st);
     }
 
-    -- the set is listed whole with the classes of bisimilarity, numbered by first member
+    -- and with the classes of bisimilarity
     pub result-classified : Classified sheet seeds set (getD (rounds sheet set) N [])
     result-classified =
         let at : getD (rounds sheet set) N [] ≡ classes sheet set N = rounds-at sheet set wf closed-set some N (omega (arith, rounds-length)) in
-        record {
-          ordered = explored-ascends sheet l seeds;
-          whole = whole;
-          classes = result-classes;
-          classed = ap length at ∙ classes-length sheet set N;
-          numbering = subst NumberedByFirst (sym at) (classes-by-first sheet set N);
-        }
+        record { set = subst (SetListed sheet seeds set) (sym at) (round-listed N); classes = result-classes }
 
     module _ (p q : Configuration) (mp : List·Memᴰ p set) (mq : List·Memᴰ q set) where
       abbrev apart : ℕ
@@ -147,6 +151,11 @@ pub member-some : (xs : List Configuration) {p : Configuration} → List·Memᴰ
 member-some [] m = absurd (List·Memᴰ·not-nil m)
 member-some (x ∷ xs) m = omega arith
 
+-- what holds of both of two holds of all of them
+pub both-hold : (P : Configuration → Type 0) {p q : Configuration} → P p → P q → (x : Configuration) → List·Memᴰ x (p ∷ q ∷ []) → P x
+both-hold P {p} {q} hp hq x m =
+    ⊎-elim (λ (e : x ≡ p). subst P (sym e) hp) (λ (k : List·Memᴰ x (q ∷ [])). subst P (sym (List·Memᴰ·eq-of-singleton k)) hq) (List·Memᴰ·cases-cons m)
+
 -- SAME is not DIFF
 pub same-not-diff : SAME ≡ DIFF → ⊥
 same-not-diff e = let z : _≡_ {A = ℕ} 0 1 = cc in omega arith
@@ -160,9 +169,7 @@ module _ (sheet : Sheet) (wf : WellFormed sheet) (l : Limits) (p q : Configurati
   members = explored sheet l seeds
 
   of-seeds : (x : Configuration) → List·Memᴰ x seeds → OfSheet sheet x
-  of-seeds x m =
-      ⊎-elim (λ (e : x ≡ p). subst (OfSheet sheet) (sym e) op)
-      (λ (k : List·Memᴰ x (q ∷ [])). subst (OfSheet sheet) (sym (List·Memᴰ·eq-of-singleton k)) oq) (List·Memᴰ·cases-cons m)
+  of-seeds = both-hold (OfSheet sheet) op oq
 
   within-limits : over l members ≡ false
   within-limits = fits-not-over sheet l seeds fit

@@ -7,3 +7,4 @@ pub mod ClassesPresent
 pub mod SetClasses
 pub mod ClassPlaces
 pub mod RoundLayout
+pub mod ClassTotals

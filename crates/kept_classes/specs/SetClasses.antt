@@ -1,24 +1,22 @@
 -- The present classes of a set's members after round r, in numbers that are kept: they are round r, the next round is read off
--- the lines, the last round is the result's, the births give the first round that has two members apart, and numbering by first
--- member gives the classes of the report.
+-- the lines, the last round is the result's, and the births give the first round that has two members apart.
 use mathlib.Core.Path.{_≡_, sym, _∙_, subst}
 use mathlib.Core.Logic.{_↔_}
 use mathlib.Core.Bool.{true}
 use mathlib.Core.List.{List, [], List·Memᴰ}
-use Prim.Native.Nat.{ℕ, zero, suc, _≤_, _<_}
+use Prim.Native.Nat.{ℕ, suc, _≤_, _<_}
 use native.Mathlib.Omega.{arith}
 use lib.ListN.{length, getD}
-use lib.Dec.{eqb, ltb}
+use lib.Dec.{ltb}
 use borrow.Author.Tests.{ltb-true, ltb-false, eqb-true, eq-eqb}
-use Rattle.list_laws.specs.TestLaws.{true-false, same-test, Tested, tested, passes, fails}
+use Rattle.list_laws.specs.TestLaws.{true-false, Tested, tested, passes, fails}
 use Rattle.sheets.specs.Sheet.{Configuration, Sheet}
 use Rattle.sheets.specs.WellFormed.{WellFormed}
 use Rattle.refinement.specs.Refinement.{Round}
-use Rattle.comparison.specs.Classes.{classOf, share, numbered}
-use Rattle.comparison.specs.Rounds.{storesEqual, together, refined, classes, rounds, resultOf, apartIn}
+use Rattle.comparison.specs.Classes.{classOf, share}
+use Rattle.comparison.specs.Rounds.{classes, rounds, resultOf, apartIn}
 use Rattle.comparison.specs.SheetTransitions.{transitions}
-use Rattle.comparison_laws.specs.ClassLaws.{numbered-same}
-use Rattle.comparison_laws.specs.RoundLaws.{ClosedList, Sharing, sharing, share-round, together-yes, together-test}
+use Rattle.comparison_laws.specs.RoundLaws.{ClosedList, Sharing, share-round}
 use Rattle.comparison_laws.specs.ResultLaws.{rounds-at, rounds-of, result-is, stable-classes}
 use Rattle.comparison_laws.specs.TrailLaws.{apart-le, apart-together, apart-at}
 use Rattle.kept_classes.specs.ClassBirths.{apart}
@@ -71,46 +69,29 @@ module _ (sheet : Sheet) (set : List Configuration) where
         shared e = eq-eqb (classOf set numbers p) (classOf set numbers q)
             (is p mp ∙ e ∙ sym (is q mq))
 
-    -- numbered by first member they are the classes of round r
-    pub present-numbered : numbered (λ p q. eqb (class p) (class q)) set ≡ classes sheet set r
-    unfolding classes refined
-    present-numbered = go r now
-      where
-        go : (n : ℕ) → ((p q : Configuration) → List·Memᴰ p set → List·Memᴰ q set → (class p ≡ class q) ↔ Round (transitions sheet) n p q)
-            → numbered (λ p q. eqb (class p) (class q)) set ≡ classes sheet set n
-        go zero w =
-            numbered-same (λ p q. eqb (class p) (class q)) (storesEqual sheet set) set
-            (λ p q mp mq. same-test (eqb (class p) (class q)) (storesEqual sheet set p q)
-            (λ h. eq-eqb _ _ (w p q mp mq .0 (eqb-true _ _ h))) (λ h. eq-eqb _ _ (w p q mp mq .1 (eqb-true _ _ h))))
-        go (suc n) w =
-            numbered-same (λ p q. eqb (class p) (class q)) (together sheet set (classes sheet set n)) set
-            (λ p q mp mq. same-test (eqb (class p) (class q)) (together sheet set (classes sheet set n) p q)
-            (λ h. together-test sheet wf set closed (classes sheet set n) n (sharing sheet wf set closed n) p q mp mq
-            (w p q mp mq .0 (eqb-true _ _ h)))
-            (λ h. eq-eqb _ _ (w p q mp mq .1 (together-yes sheet wf set closed (classes sheet set n) n (sharing sheet wf set closed n) p q mp mq h))))
-
     module _ (some : 1 ≤ length set) where
-      -- nothing splits any more, and every round before had a birth: r is the result's round
+      -- every round up to r had a birth: the result's round is not before r
+      pub present-early : ((m : ℕ) → m < r → (c : ℕ) × (c < count) × (born c ≡ suc m)) → resultOf (rounds sheet set) < r → ⊥
+      present-early births l =
+          let b = births (resultOf (rounds sheet set)) l in
+          let x = born-splits (λ (p : Configuration). List·Memᴰ p set) (Round (transitions sheet)) from born count r class P
+          (b .0) (resultOf (rounds sheet set)) (b .1) (b .2) in
+          x .5 (share-round sheet wf set closed (suc (resultOf (rounds sheet set))) (x .0) (x .1) (x .2) (x .3) .0
+          (subst (λ (l : List ℕ). share set l (x .0) (x .1) ≡ true) (sym (result-is sheet set wf closed some .equal))
+          (share-round sheet wf set closed (resultOf (rounds sheet set)) (x .0) (x .1) (x .2) (x .3) .1 (x .4))))
+
+      -- and nothing splits any more: r is the result's round
       pub present-result
           : ((p q : Configuration) → List·Memᴰ p set → List·Memᴰ q set → Round (transitions sheet) r p q → Round (transitions sheet) (suc r) p q)
           → ((m : ℕ) → m < r → (c : ℕ) × (c < count) × (born c ≡ suc m)) → length (rounds sheet set) ≡ suc r
       present-result stable births = go (tested (ltb (resultOf (rounds sheet set)) r)) (tested (ltb r (resultOf (rounds sheet set))))
         where
-          early : (resultOf (rounds sheet set)) < r → ⊥
-          early l =
-              let b = births (resultOf (rounds sheet set)) l in
-              let x = born-splits (λ (p : Configuration). List·Memᴰ p set) (Round (transitions sheet)) from born count r class P
-              (b .0) (resultOf (rounds sheet set)) (b .1) (b .2) in
-              x .5 (share-round sheet wf set closed (suc (resultOf (rounds sheet set))) (x .0) (x .1) (x .2) (x .3) .0
-              (subst (λ (l : List ℕ). share set l (x .0) (x .1) ≡ true) (sym (result-is sheet set wf closed some .equal))
-              (share-round sheet wf set closed (resultOf (rounds sheet set)) (x .0) (x .1) (x .2) (x .3) .1 (x .4))))
-
           late : r < (resultOf (rounds sheet set)) → ⊥
           late l = result-is sheet set wf closed some .first r l (stable-classes sheet set wf closed r stable)
 
           go : Tested (ltb (resultOf (rounds sheet set)) r) → Tested (ltb r (resultOf (rounds sheet set)))
               → length (rounds sheet set) ≡ suc r
-          go (passes y) t = absurd (early (ltb-true (resultOf (rounds sheet set)) r y))
+          go (passes y) t = absurd (present-early births (ltb-true (resultOf (rounds sheet set)) r y))
           go (fails y) (passes z) = absurd (late (ltb-true r (resultOf (rounds sheet set)) z))
           go (fails y) (fails z) =
               omega (

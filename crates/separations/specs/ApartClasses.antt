@@ -116,14 +116,14 @@ module _ {sheet : Sheet} {set : List Configuration} {w : List ℕ} {n m r count 
     lower = H .present .births .from-lower;
   }
 
-  -- what is worked out from the births is the first round that has the two members apart
-  pub rounds-apart : (i j : ℕ) → i < n → j < n
+  -- what is worked out from the births of all rounds is the first round that has the two members apart
+  pub rounds-apart : length (rounds sheet set) ≡ suc r → (i j : ℕ) → i < n → j < n
       → apart (fromIn w) (bornIn w) (suc r) (classIn w i) (classIn w j) ≡ apartIn set (rounds sheet set) (memberAt w i) (memberAt w j)
-  rounds-apart i j li lj =
+  rounds-apart last i j li lj =
       let s = H .ready .held in
       ap₂ (λ (a b : ℕ). apart (fromIn w) (bornIn w) (suc r) a b)
       (sym (class-held sheet set w n m s (H .ready .ascends) i li)) (sym (class-held sheet set w n m s (H .ready .ascends) j lj))
       ∙ present-first sheet set (H .ready .wf) (H .ready .closed) (fromIn w) (bornIn w) count r (classOf set (classesIn w n))
       (places-present sheet set nobody (H .ready .wf) (fromIn w) (bornIn w) count r (classesIn w n) (H .present))
-      (classesIn w n) (λ p k. refl) (omega (arith, held-count sheet set w n m s, H .ready .some)) (H .last)
+      (classesIn w n) (λ p k. refl) (omega (arith, held-count sheet set w n m s, H .ready .some)) last
       (memberAt w i) (memberAt w j) (held-in sheet set w n m s i li) (held-in sheet set w n m s j lj)

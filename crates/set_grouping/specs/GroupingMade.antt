@@ -2,17 +2,14 @@
 use mathlib.Core.Path.{_≡_}
 use mathlib.Core.List.{List, List·Memᴰ}
 use Prim.Native.Nat.{ℕ, _≤_}
-use lib.ListN.{length}
-use Rattle.list_laws.specs.Frames.{SameOutside}
 use Rattle.sheets.specs.SheetLimits.{maxStarts}
 use Rattle.sheets.specs.Sheet.{Configuration, Sheet}
 use Rattle.sheet_types.specs.declared.Configuration as held
 use Rattle.sheet_types.specs.HeldSheet.{startsIn}
 use Rattle.start_reader.specs.StartsFound.{FewThreads}
-use Rattle.work_layout.specs.WorkLayout.{workEnd}
-use Rattle.comparison.specs.Frame.{withRoom}
 use Rattle.class_rounds.specs.RoundAtHand.{SetReady}
-use Rattle.all_starts.specs.Grouping.{Groups, groupingOn, groupingBytes, groupingAfter}
+use Rattle.report_bytes.specs.AnswerMade.{AnswerMade}
+use Rattle.all_starts.specs.Grouping.{groupingOn, groupingBytes}
 use Rattle.all_starts.specs.GroupingRead.{groupsReturned}
 use Rattle.all_starts.specs.declared.AllAnswer.{AllAnswer}
 
@@ -30,15 +27,8 @@ pub record GroupingReady (w : List ℕ) (n m : ℕ) (starts : List held.Configur
   pub count : k ≤ maxStarts
   pub threads : FewThreads starts k
 
--- document 02's outcome for an answer slice of `room` bytes, where the set is in hand
-abbrev pub groupsOn : Sheet → List Configuration → ℕ → Groups
-groupsOn sheet set room = withRoom groupingBytes room (groupingOn sheet set)
-
 -- The work slice v became w, the answer slice `before` became `after`, and `answer` was returned: document 02's outcome, whatever closed
 -- set with all starts of a sheet stands in v; nothing behind the work places is changed.
-pub record GroupingMade (v before : List ℕ) (n m : ℕ) (starts : List held.Configuration) (k : ℕ) (w after : List ℕ) (answer : AllAnswer) : Type 0 where
-  pub outside : SameOutside 0 workEnd v w
-  pub answers : (sheet : Sheet) (set : List Configuration) → AllHeld sheet set v n m starts k
-      → answer ≡ groupsReturned (groupsOn sheet set (length before))
-  pub bytes : (sheet : Sheet) (set : List Configuration) → AllHeld sheet set v n m starts k
-      → after ≡ groupingAfter (groupsOn sheet set (length before)) before
+abbrev pub GroupingMade : List ℕ → List ℕ → ℕ → ℕ → List held.Configuration → ℕ → List ℕ → List ℕ → AllAnswer → Type 0
+GroupingMade v before n m starts k w after answer =
+    AnswerMade groupingBytes groupsReturned groupingOn (λ sheet set. AllHeld sheet set v n m starts k) v before w after answer

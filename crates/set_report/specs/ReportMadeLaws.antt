@@ -1,18 +1,18 @@
 -- From the rounds to the report: what stands in the work slice after each step, and that in the end it agrees with document 01's
 -- report on the set.
 use mathlib.Core.Path.{_≡_, refl, sym, ap, ap₂, _∙_, subst}
-use mathlib.Core.Logic.{_⊎_, inl, inr}
+use mathlib.Core.Logic.{inl, inr}
 use mathlib.Core.Bool.{Bool, true, false, cond}
-use mathlib.Core.List.{List, [], _∷_, _++_, map, List·Memᴰ}
+use mathlib.Core.List.{List, _++_, map, List·Memᴰ}
 use Prim.Native.Nat.{ℕ, suc, _+_, _*_, _-_, _/_, _%_, _≤_, _<_}
 use native.Mathlib.Omega.{arith}
 use native.Mathlib.Numerals.{add-one}
 use lib.ListN.{length, getD, drop, length-map}
 use lib.Dec.{eqb}
-use borrow.Author.Tests.{lt-ltb, le-ltb}
 use Rattle.list_laws.specs.Frames.{SameOutside, outside-then}
 use Rattle.list_laws.specs.ListPlaces.{getD-image}
 use Rattle.list_laws.specs.Tabulate.{tabulate, tabulate-same, tabulate-at, tabulate-length}
+use Rattle.sheets.specs.Refusals.{shortAnswer}
 use Rattle.sheets.specs.Sheet.{Configuration, Sheet}
 use Rattle.packing.specs.declared.Numbers.{Numbers}
 use Rattle.packing.specs.Packing.{standsFor, PackedIn}
@@ -23,43 +23,29 @@ use Rattle.comparison.specs.Classes.{placeOf}
 use Rattle.comparison.specs.Rounds.{classes, rounds, apartIn}
 use Rattle.comparison.specs.Trail.{Side, left, right, none, TrailStep, trail}
 use Rattle.comparison.specs.Report as spec
-use Rattle.comparison.specs.Report.{SAME, DIFF, sideByte, reportOn, reportBytes, reportLength, Compares}
-use Rattle.comparison.specs.Outcome.{reported, refusal}
-use Rattle.comparison.specs.Call.{answerAfter}
+use Rattle.comparison.specs.Report.{SAME, DIFF, sideByte, reportOn, reportBytes, reportLength}
 use Rattle.kept_classes.specs.ClassesPresent.{present-alike}
-use Rattle.kept_classes.specs.RoundLayout.{same-set-low, held-found, held-place, held-count}
+use Rattle.kept_classes.specs.RoundLayout.{same-set-low, held-place, held-count}
 use Rattle.dominators.specs.FoundMembers.{FoundAt, found-there, held-ordered}
 use Rattle.class_splits.specs.ClassedPlaces.{classed-count, classed-same}
-use Rattle.class_rounds.specs.RoundAtHand.{nobody, TogetherHeld, SetReady}
-use Rattle.class_rounds.specs.RoundsDone.{Ready, RoundsHeld, Refined, ready-same}
+use Rattle.class_rounds.specs.RoundAtHand.{nobody, TogetherHeld}
+use Rattle.class_rounds.specs.RoundsDone.{RoundsHeld, Refined, LastRound, refined-outside, ready-same}
 use Rattle.separations.specs.ApartClasses.{rounds-apart}
 use Rattle.separations.specs.ReportClasses.{NumberReady, Renumbered, result-numbers}
 use Rattle.report_records.specs.RecordLayout.{sideIn}
 use Rattle.report_bytes.specs.ReportLayout.{heldBytes}
 use Rattle.report_bytes.specs.ReportInSlice.{StepNumbers, stepIn, stepNumbers, ReportHeld, Agrees}
+use Rattle.report_bytes.specs.AnswerMade.{made-refused, made-given}
 use Rattle.report_bytes.specs.ReportInSliceLaws.{members-held, members-agree, held-report}
 use Rattle.telling_moves.specs.TrailLayout.{apartAt, TrailHeld, BirthsHeld, Followable}
 use Rattle.trail_search.specs.FollowedTrail.{Trailed}
 use Rattle.answers.specs.declared.Answer.the-variants.{Report, Refused}
 use Rattle.answers.specs.Returned.{isSame, returnedOf, returned}
 use Rattle.verdicts.specs.Verdicts.{verdictOn}
-use Rattle.set_report.specs.ReportMade.{StartsHeld, ReportReady, outcomeOn, ReportMade}
+use Rattle.two_starts.specs.TwoStarts.{StartsHeld, starts-ready}
+use Rattle.set_report.specs.ReportMade.{ReportMade}
 use Rattle.work_layout.specs.WorkLayout.{workEnd, memberRoom, classesAt, birthsAt, stepsAt, stepsEnd}
 use Rattle.work_layout.specs.ClassLayout.{classIn, classesIn, bornIn, fromIn}
-
--- a set with two starts has a member
-pub starts-ready : {sheet : Sheet} {set : List Configuration} {w : List ℕ} {n m : ℕ} {p q : Configuration} → StartsHeld sheet set w n m p q
-    → SetReady sheet set w n m
-starts-ready {sheet} {set} {w} {n} {m} {p} S = record {
-  held = S .held;
-  wf = S .wf;
-  closed = S .closed;
-  ascends = S .ascends;
-  some = omega (arith, held-found sheet set w n m (S .held) p (S .left) .0);
-}
-
-pub report-ready : {w : List ℕ} {n m : ℕ} {p q : struct.Configuration} → ReportReady w n m p q → Ready w n m
-report-ready Y = record { sheet = Y .sheet; set = Y .set; ready = starts-ready (Y .starts) }
 
 -- the side of a step is a byte
 side-small : (s : Side) → sideByte s < 256
@@ -67,15 +53,16 @@ side-small left = omega arith
 side-small right = omega arith
 
 -- ---- after the rounds
-module _ {sheet : Sheet} {set : List Configuration} {w : List ℕ} {n m r count : ℕ} (H : RoundsHeld sheet set w n m r count) where
+module _ {sheet : Sheet} {set : List Configuration} {w : List ℕ} {n m r count : ℕ} (H : RoundsHeld sheet set w n m r count)
+    (last : length (rounds sheet set) ≡ suc r) where
   trail-held : TrailHeld sheet set w n m (r + 1)
   trail-held = record {
     held = H .ready .held;
     wf = H .ready .wf;
     closed = H .ready .closed;
     ascends = H .ready .ascends;
-    rounds-are = omega (arith, H .last);
-    first-apart = λ i j li lj. rw (add-one r) (rounds-apart H i j li lj);
+    rounds-are = omega (arith, last);
+    first-apart = λ i j li lj. rw (add-one r) (rounds-apart H last i j li lj);
   }
 
   births-held : BirthsHeld w n
@@ -90,6 +77,7 @@ module _ {sheet : Sheet} {set : List Configuration} {w : List ℕ} {n m r count 
   pub rounds-follow : Followable w n (r + 1)
   rounds-follow = record { sheet = sheet; set = set; m = m; held = trail-held; births = births-held }
 
+module _ {sheet : Sheet} {set : List Configuration} {w : List ℕ} {n m r count : ℕ} (H : RoundsHeld sheet set w n m r count) where
   -- a member that is looked for by its numbers stands at the place found, which is its place in the set
   pub member-found : (y : Configuration) → List·Memᴰ y set → (x : Numbers) (i : ℕ) → PackedIn x × (standsFor x ≡ y) → FoundAt w n x i
       → (i < n) × (memberAt w i ≡ y) × (placeOf set y ≡ i)
@@ -123,7 +111,6 @@ module _ {sheet : Sheet} {set : List Configuration} {w : List ℕ} {n m r count 
       present = present-alike (λ (i : ℕ). i < length set) (TogetherHeld sheet set) (fromIn w) (bornIn w) (fromIn u) (bornIn u) count r
           (λ i. getD (classesIn w n) i 0) (λ i. getD (classesIn u n) i 0) (H .present)
           (λ c l. ap (λ (x : ℕ). x / 65536) (birth-same c l)) (λ c l. ap (λ (x : ℕ). x % 65536) (birth-same c l)) listed-same;
-      last = H .last;
       classed = classed-same (H .ready .held .few .0) (H .classed) (λ k h l. S .at k (inr (omega arith)));
     }
 
@@ -142,15 +129,8 @@ module _ {v : List ℕ} {n m : ℕ} {w : List ℕ} {r count : ℕ} (R : Refined 
   -- nothing behind the work places is changed
   pub report-outside : SameOutside 0 workEnd v x
   report-outside =
-      outside-then (outside-then rounds (T .outside) 0 workEnd (omega arith) (omega arith) (omega arith) (omega arith)) (N .only) 0 workEnd
-      (omega arith) (omega arith) (omega arith) (omega arith)
-    where
-      rounds : SameOutside 0 workEnd v w
-      rounds = record { long = R .long; at = λ l o. side l o }
-        where
-          side : (l : ℕ) → (l < 0) ⊎ (workEnd ≤ l) → getD w l 0 ≡ getD v l 0
-          side l (inl h) = absurd (omega arith)
-          side l (inr h) = R .at-end l h
+      outside-then (outside-then (refined-outside R) (T .outside) 0 workEnd (omega arith) (omega arith) (omega arith) (omega arith)) (N .only)
+      0 workEnd (omega arith) (omega arith) (omega arith) (omega arith)
 
   step-kept : k ≤ memberRoom → (l : ℕ) → l < k → stepIn x l ≡ stepIn u l
   step-kept few l h =
@@ -165,16 +145,19 @@ module _ {v : List ℕ} {n m : ℕ} {w : List ℕ} {r count : ℕ} (R : Refined 
       }) a
       ∙ ap₂ (λ (y z : ℕ). record { side = getD u (stepsAt + 3 * l) 0; label = y / 65536; target = y % 65536; reply = z }) b c
 
-  module _ {sheet : Sheet} {set : List Configuration} {p q : Configuration} (S : StartsHeld sheet set v n m p q) where
+  module _ (L : LastRound v n m r) {sheet : Sheet} {set : List Configuration} {p q : Configuration} (S : StartsHeld sheet set v n m p q) where
+    last-now : length (rounds sheet set) ≡ suc r
+    last-now = L sheet set (starts-ready S)
+
     rounds-now : RoundsHeld sheet set w n m r count
     rounds-now = R .rounds-held sheet set (starts-ready S)
 
-    numbered : SetHeld sheet set x n m × (classesIn x n ≡ classes sheet set r) × (getD (rounds sheet set) r [] ≡ classes sheet set r)
+    numbered : SetHeld sheet set x n m × (classesIn x n ≡ classes sheet set r)
     numbered = N .numbers sheet set m r count (rounds-kept rounds-now (T .outside))
 
     steps-are : tabulate (stepIn x) k
         ≡ map (stepNumbers set) (trail sheet set (rounds sheet set) (memberAt w i) (memberAt w j))
-    steps-are = tabulate-same (stepIn x) (stepIn u) k (step-kept (omega (arith, T .short, R .bounds, numbered .0 .few .0))) ∙ T .steps sheet set m (trail-held rounds-now)
+    steps-are = tabulate-same (stepIn x) (stepIn u) k (step-kept (omega (arith, T .short, R .bounds, numbered .0 .few .0))) ∙ T .steps sheet set m (trail-held rounds-now last-now)
 
     -- the side of each step is a byte
     side-byte : (l : ℕ) → l < k → sideIn x l < 256
@@ -204,7 +187,7 @@ module _ {v : List ℕ} {n m : ℕ} {w : List ℕ} {r count : ℕ} (R : Refined 
     pub report-agrees : memberAt w i ≡ p → memberAt w j ≡ q → Agrees (reportOn sheet set p q) x n k
     unfolding reportOn
     report-agrees ep eq = record {
-      listed = members-agree (numbered .0) (S .ascends) (result-numbers N (rounds-kept rounds-now (T .outside)));
+      listed = members-agree (numbered .0) (S .ascends) (result-numbers N (rounds-kept rounds-now (T .outside)) last-now);
       steps = steps-are
           ∙ ap₂ (λ (a b : Configuration). map (stepNumbers set) (trail sheet set (rounds sheet set) a b)) ep eq;
     }
@@ -237,17 +220,23 @@ verdict-is sheet set p q =
 
 -- ---- the answer
 -- i and j are the places found for the starts; `size` is the length of the bytes that stand for the report
-module _ {v : List ℕ} {n m : ℕ} {w : List ℕ} {r count : ℕ} (R : Refined v n m w r count) {i j : ℕ} {u : List ℕ} {k : ℕ}
+module _ {v : List ℕ} {n m : ℕ} {w : List ℕ} {r count : ℕ} (R : Refined v n m w r count) (L : LastRound v n m r) {i j : ℕ} {u : List ℕ} {k : ℕ}
     (T : Trailed w n (r + 1) i j u k) {x : List ℕ} (N : Renumbered u n x) (p q : struct.Configuration) (a b : Numbers)
     (ea : PackedIn a × (standsFor a ≡ configuration p)) (fa : FoundAt w n a i)
     (eb : PackedIn b × (standsFor b ≡ configuration q)) (fb : FoundAt w n b j)
     (size : ℕ) (es : size ≡ length (heldBytes x n k)) (before : List ℕ) where
-  module _ (sheet : Sheet) (set : List Configuration) (S : StartsHeld sheet set v n m (configuration p) (configuration q)) where
-    abbrev made : spec.Report
-    made = reportOn sheet set (configuration p) (configuration q)
+  abbrev made : Sheet → List Configuration → spec.Report
+  made sheet set = reportOn sheet set (configuration p) (configuration q)
 
+  abbrev Held : Sheet → List Configuration → Type 0
+  Held sheet set = StartsHeld sheet set v n m (configuration p) (configuration q)
+
+  module _ (sheet : Sheet) (set : List Configuration) (S : Held sheet set) where
     now-held : RoundsHeld sheet set w n m r count
     now-held = R .rounds-held sheet set (starts-ready S)
+
+    last-held : length (rounds sheet set) ≡ suc r
+    last-held = L sheet set (starts-ready S)
 
     left-at : (i < n) × (memberAt w i ≡ configuration p) × (placeOf set (configuration p) ≡ i)
     left-at = member-found now-held (configuration p) (S .left) a i ea fa
@@ -255,49 +244,32 @@ module _ {v : List ℕ} {n m : ℕ} {w : List ℕ} {r count : ℕ} (R : Refined 
     right-at : (j < n) × (memberAt w j ≡ configuration q) × (placeOf set (configuration q) ≡ j)
     right-at = member-found now-held (configuration q) (S .right) b j eb fb
 
-    bytes-are : heldBytes x n k ≡ reportBytes made
-    bytes-are = held-report made x n k (report-agrees R T N S (left-at .1) (right-at .1))
+    bytes-are : heldBytes x n k ≡ reportBytes (made sheet set)
+    bytes-are = held-report (made sheet set) x n k (report-agrees R T N L S (left-at .1) (right-at .1))
 
-    size-is : size ≡ reportLength made
+    size-is : size ≡ reportLength (made sheet set)
     size-is = es ∙ ap length bytes-are
 
-    outcome-refused : length before < size → outcomeOn sheet set (configuration p) (configuration q) (length before) ≡ refusal 22 size
-    outcome-refused h =
-        ap (λ (t : Bool). cond t (refusal 22 (reportLength made)) (reported made))
-        (lt-ltb (length before) (reportLength made) (omega (arith, size-is)))
-        ∙ ap (refusal 22) (sym size-is)
-
-    outcome-reported : size ≤ length before → outcomeOn sheet set (configuration p) (configuration q) (length before) ≡ reported made
-    outcome-reported h =
-        ap (λ (t : Bool). cond t (refusal 22 (reportLength made)) (reported made))
-        (le-ltb (length before) (reportLength made) (omega (arith, size-is)))
-
-    verdict-found : (apart : ℕ) → apart ≡ apartAt w (r + 1) i j → verdictOn apart (r + 1) i j size ≡ returnedOf made
+    verdict-found : (apart : ℕ) → apart ≡ apartAt w (r + 1) i j → verdictOn apart (r + 1) i j size ≡ returnedOf (made sheet set)
     verdict-found apart e =
         let f : apart ≡ apartIn set (rounds sheet set) (configuration p) (configuration q) =
-        e ∙ trail-held now-held .first-apart i j (left-at .0) (right-at .0)
+        e ∙ trail-held now-held last-held .first-apart i j (left-at .0) (right-at .0)
         ∙ ap₂ (λ (y z : Configuration). apartIn set (rounds sheet set) y z) (left-at .1) (right-at .1) in
         verdict-alike apart (apartIn set (rounds sheet set) (configuration p) (configuration q)) (r + 1) (length (rounds sheet set))
-        i (placeOf set (configuration p)) j (placeOf set (configuration q)) size (reportLength made)
-        f (omega (arith, now-held .last)) (sym (left-at .2)) (sym (right-at .2)) size-is
+        i (placeOf set (configuration p)) j (placeOf set (configuration q)) size (reportLength (made sheet set))
+        f (omega (arith, last-held)) (sym (left-at .2)) (sym (right-at .2)) size-is
         ∙ verdict-is sheet set (configuration p) (configuration q)
 
   -- the answer slice is shorter than the report
-  pub made-refused : length before < size → ReportMade v before n m p q x before (Refused 22 size)
-  made-refused h = record {
-    outside = report-outside R T N;
-    answers = λ sheet set S. ap returned (sym (outcome-refused sheet set S h));
-    bytes = λ sheet set S. ap (λ (o : Compares). answerAfter o before) (sym (outcome-refused sheet set S h));
-  }
+  pub made-short : length before < size → ReportMade v before n m p q x before (Refused shortAnswer size)
+  made-short h =
+      subst (λ (z : ℕ). ReportMade v before n m p q x before (Refused shortAnswer z)) (sym es)
+      (made-refused reportBytes returned made Held (report-outside R T N) (heldBytes x n k) bytes-are before (omega (arith, es)))
 
   -- the report is written into the front of the answer slice
   pub made-reported : size ≤ length before → (apart : ℕ) → apart ≡ apartAt w (r + 1) i j → (after : List ℕ)
       → after ≡ heldBytes x n k ++ drop (length (heldBytes x n k)) before
       → ReportMade v before n m p q x after (Report (verdictOn apart (r + 1) i j size))
-  made-reported h apart e after f = record {
-    outside = report-outside R T N;
-    answers = λ sheet set S. ap Report (verdict-found sheet set S apart e) ∙ ap returned (sym (outcome-reported sheet set S h));
-    bytes = λ sheet set S.
-        f ∙ ap (λ (l : List ℕ). l ++ drop (length l) before) (bytes-are sheet set S)
-        ∙ ap (λ (o : Compares). answerAfter o before) (sym (outcome-reported sheet set S h));
-  }
+  made-reported h apart e after f =
+      made-given reportBytes returned made Held (report-outside R T N) (heldBytes x n k) bytes-are before (omega (arith, es)) f
+      (λ sheet set S. ap Report (verdict-found sheet set S apart e))

@@ -2,7 +2,8 @@
 use answers::Answer;
 use sheet_types::Configuration;
 use verdicts::verdict_on;
-ghost use Rattle.set_report.specs.ReportMade.{ReportReady, ReportMade};
+ghost use Rattle.two_starts.specs.TwoStarts.{StartsReady};
+ghost use Rattle.set_report.specs.ReportMade.{ReportMade};
 
 // The report on the set of n members with m moves in the work slice, for the starts p and q; 22 where the answer slice is
 // shorter than it.
@@ -14,7 +15,7 @@ pub fn report_set(
     p: Configuration,
     q: Configuration,
 ) -> Answer
-    requires { ⌜ ReportReady (now work) n m p q ⌝ }
+    requires { ⌜ StartsReady (now work) n m p q ⌝ }
     ensures { λ r. ⌜ ReportMade (now (work .entry)) (now (answer .entry)) n m p q (now (work .exit)) (now (answer .exit)) r ⌝ }
 {
     let rounds = class_rounds::refine(work, n, m);

@@ -9,7 +9,7 @@ ghost use Rattle.sheet_types.specs.HeldSheet.{configuration};
 ghost use Rattle.start_classes.specs.StartClasses.{classHeld, startsPart, MemberHeld, StartsHeld};
 
 // The class of the member that a configuration is.
-fn class_of(work: &[u32], n: usize, p: Configuration) -> u32
+pub fn class_of(work: &[u32], n: usize, p: Configuration) -> u32
     requires { ⌜ MemberHeld (now work) n p ⌝ }
     ensures { λ r. ⌜ r ≡ classHeld (now (work .entry)) n (configuration p) ⌝ }
 {

@@ -1,7 +1,7 @@
 -- A set in the work slice beside the classes that keep their numbers and their births, after the rounds: what the trail is
 -- worked out from.
 use mathlib.Core.Path.{_≡_, refl, sym, ap, ap₂, _∙_}
-use mathlib.Core.Logic.{inl, inr}
+use mathlib.Core.Logic.{inr}
 use mathlib.Core.List.{List}
 use Prim.Native.Nat.{ℕ, zero, suc, _+_, _/_, _%_, _≤_, _<_, min, max}
 use native.Mathlib.Omega.{arith}
@@ -21,10 +21,7 @@ use Rattle.comparison_laws.specs.ResultLaws.{result-is}
 use Rattle.kept_classes.specs.ClassBirths.{apart, apartFrom, Births, apart-same, apart-founders, apart-up}
 use Rattle.kept_classes.specs.ClassesPresent.{births-agree}
 use Rattle.kept_classes.specs.RoundLayout.{SameSet, same-set-low, held-same, held-member-same, held-count}
-use Rattle.class_splits.specs.ClassedPlaces.{classed-count}
-use Rattle.class_rounds.specs.RoundsDone.{RoundsHeld}
-use Rattle.separations.specs.ApartClasses.{rounds-apart}
-use Rattle.work_layout.specs.WorkLayout.{workEnd, movesAt, classesAt, birthsAt, stepsAt, stepsEnd, memberRoom}
+use Rattle.work_layout.specs.WorkLayout.{movesAt, classesAt, birthsAt, stepsAt, stepsEnd, memberRoom}
 use Rattle.work_layout.specs.ClassLayout.{classIn, bornIn, fromIn}
 
 -- the first round that has the members at places i and j apart, by the births of their classes; last where none has
@@ -54,33 +51,6 @@ pub record Followable (w : List ℕ) (n last : ℕ) : Type 0 where
   pub m : ℕ
   pub held : TrailHeld sheet set w n m last
   pub births : BirthsHeld w n
-
--- after the rounds a set stands so
-pub rounds-trail : {sheet : Sheet} {set : List Configuration} {w : List ℕ} {n m r count : ℕ} → RoundsHeld sheet set w n m r count
-    → TrailHeld sheet set w n m (suc r)
-rounds-trail H = record {
-  held = H .ready .held;
-  wf = H .ready .wf;
-  closed = H .ready .closed;
-  ascends = H .ready .ascends;
-  rounds-are = H .last;
-  first-apart = rounds-apart H;
-}
-
-pub rounds-followable : {sheet : Sheet} {set : List Configuration} {w : List ℕ} {n m r count : ℕ} → RoundsHeld sheet set w n m r count
-    → Followable w n (suc r)
-rounds-followable {sheet} {set} {w} {n} {m} {r} {count} H = record {
-  sheet = sheet;
-  set = set;
-  m = m;
-  held = rounds-trail H;
-  births = record {
-    count = count;
-    few = omega (arith, classed-count (H .classed), H .ready .held .few .0);
-    classes = H .classed .known;
-    births = H .present .births;
-  };
-}
 
 -- two moves of one member
 pub record MovesOfOne (w : List ℕ) (n x y : ℕ) : Type 0 where

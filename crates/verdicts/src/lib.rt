@@ -1,8 +1,10 @@
-// The verdict on two members, by the round that separates them.
+// The verdict on two members, by the round that separates them, or by the classes of one round.
+use after_rounds::Verdict;
 use answers::Reported;
+ghost use Rattle.after_rounds.specs.AfterRoundsRead.{verdictReturned};
 ghost use mathlib.Core.Path.{_≡_};
 ghost use Prim.Native.Nat.{_<_};
-ghost use Rattle.verdicts.specs.Verdicts.{verdictOn};
+ghost use Rattle.verdicts.specs.Verdicts.{verdictOn, verdictIn};
 
 // The verdict on two members that are first separated in round `apart` of `last` rounds.
 pub fn verdict_on(apart: usize, last: usize, left: usize, right: usize, length: usize) -> Reported
@@ -25,4 +27,17 @@ pub fn verdict_on(apart: usize, last: usize, left: usize, right: usize, length: 
         right,
         length,
     }
+}
+
+// The verdict on two members that a round has together or not, where `last` says whether the round equals its successor.
+pub fn verdict_in(together: bool, last: bool) -> Verdict
+    ensures { λ r. ⌜ r ≡ verdictReturned (verdictIn together last) ⌝ }
+{
+    if together {
+        if last {
+            return Verdict::Same;
+        }
+        return Verdict::Open;
+    }
+    Verdict::Diff
 }

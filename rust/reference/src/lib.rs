@@ -1,6 +1,6 @@
-//! Document 01 and card 1 of document 02 written again in Rust, twice, from their text and the readings
-//! in docs/DECISIONS.md and without the library's code: [`plain`], to be read beside the documents, and
-//! [`fast`], written for speed. The library is held to both, and they to each other. Both take the
+//! Document 01 and cards 1, 3 and 13 of document 02 written again in Rust, twice, from their text and the
+//! readings in docs/DECISIONS.md and without the library's code: [`plain`], to be read beside the documents,
+//! and [`fast`], written for speed. The library is held to both, and they to each other. Both take the
 //! limits as a given value.
 
 pub mod fast;
@@ -30,7 +30,8 @@ impl Default for Limits {
 }
 
 /// What a call returns: its number (0 for an answer) and some numbers beside it. Of two chosen starts
-/// these are verdict, round, left, right, length and place; of all starts round, length and place.
+/// these are verdict, round, left, right, length and place; of all starts round, length and place; of two
+/// starts after so many rounds verdict, classes, members, length and place.
 pub type Returned<const N: usize = 6> = (u32, [usize; N]);
 
 /// A refusal as it is returned: the place is the last number, all others are 0.
@@ -40,8 +41,8 @@ fn refused<const N: usize>(number: u32, place: usize) -> Returned<N> {
     (number, numbers)
 }
 
-/// What the documents say, within some limits, about a sheet and a choice of two starts, or about all
-/// starts of a sheet, whatever slices are lent.
+/// What the documents say, within some limits, about a sheet and a choice of two starts, in the end or
+/// after so many rounds, or about all starts of a sheet, whatever slices are lent.
 #[derive(Clone, Debug, PartialEq, Eq)]
 pub enum Judgement<const N: usize = 6> {
     /// Refusals 1 to 15.

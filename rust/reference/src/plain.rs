@@ -1,5 +1,6 @@
-//! Document 01, plainly: in its order and its words, with no thought of speed. At the end stands card 1
-//! of document 02, all starts of a sheet compared together.
+//! Document 01, plainly: in its order and its words, with no thought of speed. At the end stand two cards
+//! of document 02: card 1, all starts of a sheet compared together, and card 13, two starts after so many
+//! rounds.
 
 use crate::{Judgement, Limits};
 use std::collections::{BTreeMap, BTreeSet, HashMap};
@@ -479,17 +480,40 @@ impl Comparison {
         classes
     }
 
+    fn round_0(&self) -> Classes {
+        self.classes_by(|i, j| self.stores[i] == self.stores[j])
+    }
+
+    /// The round after this one.
+    fn successor(&self, classes: &Classes) -> Classes {
+        self.classes_by(|i, j| self.share_next(classes, i, j))
+    }
+
     /// The rounds from 0 to the first that is equal to its successor.
     fn rounds(&self) -> Vec<Classes> {
-        let mut rounds = vec![self.classes_by(|i, j| self.stores[i] == self.stores[j])];
+        let mut rounds = vec![self.round_0()];
         loop {
             let last = &rounds[rounds.len() - 1];
-            let next = self.classes_by(|i, j| self.share_next(last, i, j));
+            let next = self.successor(last);
             if next == *last {
                 return rounds;
             }
             rounds.push(next);
         }
+    }
+
+    /// Round k and its successor. Once two rounds in a row are equal, all later ones are equal to them.
+    fn round_and_successor(&self, k: u64) -> (Classes, Classes) {
+        let mut round = self.round_0();
+        let mut next = self.successor(&round);
+        for _ in 0..k {
+            if next == round {
+                break;
+            }
+            round = next;
+            next = self.successor(&round);
+        }
+        (round, next)
     }
 
     /// The trail from a pair, as answer bytes of each step.
@@ -529,20 +553,48 @@ fn first_apart(rounds: &[Classes], i: usize, j: usize) -> Option<usize> {
     rounds.iter().position(|classes| classes[i] != classes[j])
 }
 
-/// A set with its rounds, from 0 to the result.
-struct Refined {
+/// A set, in order and with its moves by position.
+struct Explored {
     members: Members,
     comparison: Comparison,
+}
+
+impl Explored {
+    fn new(limits: Limits, sheet: &Sheet, seeds: &[Configuration]) -> Result<Explored, TooLarge> {
+        let mut moving = Moving::new(sheet, limits);
+        let members = explore(&mut moving, seeds)?;
+        let comparison = Comparison::new(&moving, &members);
+        Ok(Explored { members, comparison })
+    }
+
+    fn place(&self, start: &Configuration) -> usize {
+        self.members.keys().position(|member| member == start).expect("a start is a member")
+    }
+
+    /// The members with these classes as answer bytes, after their count.
+    fn member_bytes(&self, classes: &Classes) -> Vec<u8> {
+        let mut bytes = vec![];
+        bytes.extend((self.members.len() as u16).to_le_bytes());
+        for (member, class) in self.members.keys().zip(classes) {
+            bytes.extend(member.store.to_le_bytes());
+            bytes.push(member.count as u8);
+            bytes.extend(member.threads.iter().map(|&thread| thread as u8));
+            bytes.extend((*class as u16).to_le_bytes());
+        }
+        bytes
+    }
+}
+
+/// A set with its rounds, from 0 to the result.
+struct Refined {
+    set: Explored,
     rounds: Vec<Classes>,
 }
 
 impl Refined {
-    fn new(limits: Limits, sheet: &Sheet, seeds: &[Configuration]) -> Result<Refined, TooLarge> {
-        let mut moving = Moving::new(sheet, limits);
-        let members = explore(&mut moving, seeds)?;
-        let comparison = Comparison::new(&moving, &members);
-        let rounds = comparison.rounds();
-        Ok(Refined { members, comparison, rounds })
+    fn new(set: Explored) -> Refined {
+        let rounds = set.comparison.rounds();
+        Refined { set, rounds }
     }
 
     /// The number of the result's round.
@@ -554,42 +606,30 @@ impl Refined {
     fn classes(&self) -> &Classes {
         &self.rounds[self.last()]
     }
-
-    fn place(&self, start: &Configuration) -> usize {
-        self.members.keys().position(|member| member == start).expect("a start is a member")
-    }
-
-    /// The members as answer bytes, after their count.
-    fn member_bytes(&self) -> Vec<u8> {
-        let mut bytes = vec![];
-        bytes.extend((self.members.len() as u16).to_le_bytes());
-        for (member, class) in self.members.keys().zip(self.classes()) {
-            bytes.extend(member.store.to_le_bytes());
-            bytes.push(member.count as u8);
-            bytes.extend(member.threads.iter().map(|&thread| thread as u8));
-            bytes.extend((*class as u16).to_le_bytes());
-        }
-        bytes
-    }
 }
 
 // The report
 
-fn report(refined: &Refined, left: &Configuration, right: &Configuration) -> Judgement {
-    let (left, right) = (refined.place(left), refined.place(right));
+fn report(set: Explored, left: usize, right: usize) -> Judgement {
+    let refined = Refined::new(set);
     let (verdict, round) = match first_apart(&refined.rounds, left, right) {
         None => (0, refined.last()),
         Some(round) => (1, round),
     };
-    let steps = refined.comparison.trail(&refined.rounds, left, right);
-    let mut bytes = refined.member_bytes();
+    let steps = refined.set.comparison.trail(&refined.rounds, left, right);
+    let mut bytes = refined.set.member_bytes(refined.classes());
     bytes.extend((steps.len() as u16).to_le_bytes());
     bytes.extend(steps.concat());
     Judgement::Answer { numbers: [verdict, round, left, right, bytes.len(), 0], bytes }
 }
 
-/// What document 01 says, within these limits, about these bytes and these two starts.
-pub fn judge(limits: Limits, bytes: &[u8], left: usize, right: usize) -> Judgement {
+/// What is said of the set of two starts and of their places in it, or the refusal before that.
+fn judge_two<const N: usize>(
+    limits: Limits,
+    bytes: &[u8],
+    (left, right): (usize, usize),
+    say: impl FnOnce(Explored, usize, usize) -> Judgement<N>,
+) -> Judgement<N> {
     let refused = |number, place| Judgement::Refused { number, place };
     let sheet = match read(bytes) {
         Ok(sheet) => sheet,
@@ -597,18 +637,23 @@ pub fn judge(limits: Limits, bytes: &[u8], left: usize, right: usize) -> Judgeme
     };
     let Some(left) = sheet.starts.get(left) else { return refused(14, 0) };
     let Some(right) = sheet.starts.get(right) else { return refused(14, 1) };
-    match Refined::new(limits, &sheet, &[left.clone(), right.clone()]) {
-        Ok(refined) => report(&refined, left, right),
-        Err(TooLarge) => Judgement::TooLarge,
-    }
+    let Ok(set) = Explored::new(limits, &sheet, &[left.clone(), right.clone()]) else { return Judgement::TooLarge };
+    let (left, right) = (set.place(left), set.place(right));
+    say(set, left, right)
+}
+
+/// What document 01 says, within these limits, about these bytes and these two starts.
+pub fn judge(limits: Limits, bytes: &[u8], left: usize, right: usize) -> Judgement {
+    judge_two(limits, bytes, (left, right), report)
 }
 
 // All starts: document 02, card 1
 
-fn grouping(refined: &Refined, starts: &[Configuration]) -> Judgement<3> {
-    let mut bytes = refined.member_bytes();
+fn grouping(set: Explored, starts: &[Configuration]) -> Judgement<3> {
+    let refined = Refined::new(set);
+    let mut bytes = refined.set.member_bytes(refined.classes());
     for start in starts {
-        let class = refined.classes()[refined.place(start)];
+        let class = refined.classes()[refined.set.place(start)];
         bytes.extend((class as u16).to_le_bytes());
     }
     Judgement::Answer { numbers: [refined.last(), bytes.len(), 0], bytes }
@@ -620,10 +665,31 @@ pub fn judge_all(limits: Limits, bytes: &[u8]) -> Judgement<3> {
         Ok(sheet) => sheet,
         Err(Refusal { number, place }) => return Judgement::Refused { number, place },
     };
-    match Refined::new(limits, &sheet, &sheet.starts) {
-        Ok(refined) => grouping(&refined, &sheet.starts),
+    match Explored::new(limits, &sheet, &sheet.starts) {
+        Ok(set) => grouping(set, &sheet.starts),
         Err(TooLarge) => Judgement::TooLarge,
     }
+}
+
+// Two starts after so many rounds: document 02, card 13
+
+/// DIFF if round k has the starts in different classes, SAME if it is equal to its successor and they are
+/// together, OPEN otherwise; with the classes of round k.
+fn after_rounds(set: Explored, left: usize, right: usize, k: u64) -> Judgement<5> {
+    let (round, next) = set.comparison.round_and_successor(k);
+    let verdict = match round[left] == round[right] {
+        false => 1,
+        true if round == next => 0,
+        true => 2,
+    };
+    let classes: BTreeSet<&usize> = round.iter().collect();
+    let bytes = set.member_bytes(&round);
+    Judgement::Answer { numbers: [verdict, classes.len(), set.members.len(), bytes.len(), 0], bytes }
+}
+
+/// What document 02 says, within these limits, about these bytes and these two starts after k rounds.
+pub fn judge_rounds(limits: Limits, bytes: &[u8], left: usize, right: usize, k: u64) -> Judgement<5> {
+    judge_two(limits, bytes, (left, right), |set, left, right| after_rounds(set, left, right, k))
 }
 
 // Sizes

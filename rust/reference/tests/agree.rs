@@ -1,24 +1,7 @@
 //! The two implementations agree with each other, and with the sheets that document 01 knows.
 
 use reference::{fast, plain, Judgement, Limits, Returned, WORK_NUMBERS};
-use sheets::{alike_pair, damage, draw, variants, Draft, Rng, ASK, BOTH, EITHER, SHAPES, STOP, TELL};
-
-/// Sheet K of document 01.
-fn sheet_k(starts: &[(u16, &[u8])]) -> Draft {
-    let nodes = vec![
-        (STOP, 0, 0),
-        (TELL, 0, 0),
-        (ASK, 1, 1),
-        (ASK, 2, 1),
-        (EITHER, 2, 3),
-        (TELL, 4, 0),
-        (ASK, 2, 5),
-        (EITHER, 2, 6),
-        (BOTH, 1, 1),
-    ];
-    let starts = starts.iter().map(|(store, threads)| (*store, threads.to_vec())).collect();
-    Draft { facts: 3, rules: vec![(2, 1)], nodes, starts }
-}
+use sheets::{alike_pair, damage, deepest_chain, draw, sheet_k, variants, Draft, Rng, ASK, BOTH, SHAPES, TELL};
 
 /// Verdict, round and steps as side, label, target, reply.
 type Short = (usize, usize, Vec<(u8, u16, u16, u16)>);
@@ -81,6 +64,30 @@ fn all_starts_of_sheet_k() {
     assert_eq!(classes, [2, 3, 2, 4, 5, 1, 7, 2]);
 }
 
+/// What is said of starts 0 and 1 after 0 to 3 rounds: verdict, number of classes, number of members.
+fn after_rounds(draft: &Draft) -> [[usize; 3]; 4] {
+    [0, 1, 2, 3].map(|k| {
+        let judgement = plain::judge_rounds(Limits::DOCUMENT, &draft.bytes(), 0, 1, k);
+        assert_eq!(plain::judge_rounds(Limits::DESK, &draft.bytes(), 0, 1, k), judgement);
+        let Judgement::Answer { numbers: [verdict, classes, members, length, 0], bytes } = judgement else {
+            panic!("refused");
+        };
+        assert_eq!(length, bytes.len());
+        [verdict, classes, members]
+    })
+}
+
+#[test]
+fn sheet_k_after_rounds() {
+    let k = |left: (u16, &[u8]), right: (u16, &[u8])| after_rounds(&sheet_k(&[left, right]));
+    assert_eq!(k((0, &[2]), (0, &[4])), [[2, 3, 6], [0, 5, 6], [0, 5, 6], [0, 5, 6]]);
+    assert_eq!(k((0, &[2]), (0, &[3])), [[2, 3, 6], [1, 6, 6], [1, 6, 6], [1, 6, 6]]);
+    assert_eq!(k((0, &[2]), (0, &[7])), [[2, 4, 8], [2, 7, 8], [1, 8, 8], [1, 8, 8]]);
+    assert_eq!(k((0, &[1]), (1, &[1])), [[1, 2, 4], [1, 4, 4], [1, 4, 4], [1, 4, 4]]);
+    assert_eq!(k((0, &[]), (0, &[])), [[0, 1, 1]; 4]);
+    assert_eq!(k((0, &[8]), (0, &[1])), [[2, 1, 3], [2, 2, 3], [1, 3, 3], [1, 3, 3]]);
+}
+
 struct Held {
     comparer: fast::Comparer,
     answer: Vec<u8>,
@@ -106,6 +113,16 @@ impl Held {
         self.hold_to(&judgement, &format!("{limits:?} all {bytes:?}"), |comparer, answer, work| {
             comparer.compare_all(limits, bytes, answer, work)
         })
+    }
+
+    /// The same after k rounds.
+    fn hold_rounds(&mut self, limits: Limits, bytes: &[u8], left: usize, right: usize, k: u64) -> u32 {
+        let judgement = plain::judge_rounds(limits, bytes, left, right, k);
+        self.hold_to(
+            &judgement,
+            &format!("{limits:?} {left} {right}, {k} rounds {bytes:?}"),
+            |comparer, answer, work| comparer.compare_rounds(limits, bytes, (left, right), k, answer, work),
+        )
     }
 
     fn hold_to<const N: usize>(
@@ -161,6 +178,41 @@ fn random_sheets_all_starts() {
         for (at, seen) in [("", seen), (", desk's limits", desk)] {
             let other = 1_500 - seen[0] - seen[21];
             println!("{}, all starts{at}: {} answers, {} too large, {other} other", shape.name, seen[0], seen[21]);
+        }
+    }
+}
+
+#[test]
+fn random_sheets_after_rounds() {
+    let mut held = Held::new();
+    for shape in &SHAPES {
+        let mut rng = Rng::new(3);
+        let (mut seen, mut desk) = ([0; 24], [0; 24]);
+        for i in 0..1_500 {
+            let draft = if i % 3 == 0 { alike_pair(shape, &mut rng) } else { draw(shape, &mut rng) };
+            let mut bytes = draft.bytes();
+            if i % 10 == 9 {
+                damage(&mut bytes, &mut rng);
+            }
+            let k = rng.pick(&[0, 0, 1, 1, 2, 3, 5, 10, u64::MAX]);
+            seen[held.hold_rounds(Limits::DOCUMENT, &bytes, 0, 1, k) as usize] += 1;
+            desk[held.hold_rounds(Limits::DESK, &bytes, 0, 1, k) as usize] += 1;
+        }
+        for (at, seen) in [("", seen), (", desk's limits", desk)] {
+            let other = 1_500 - seen[0] - seen[21];
+            println!("{}, after rounds{at}: {} answers, {} too large, {other} other", shape.name, seen[0], seen[21]);
+        }
+    }
+}
+
+#[test]
+fn a_deep_chain_after_rounds() {
+    let mut held = Held::new();
+    let bytes = deepest_chain().bytes();
+    for k in (0..70).chain([255, 256, 65_536, 1 << 32, u64::MAX]) {
+        for limits in [Limits::DOCUMENT, Limits::DESK] {
+            assert_eq!(held.hold_rounds(limits, &bytes, 0, 1, k), 0);
+            assert_eq!(held.hold_rounds(limits, &bytes, 0, 0, k), 0);
         }
     }
 }

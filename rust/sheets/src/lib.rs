@@ -1,15 +1,18 @@
 //! Sheets for tests and measurements, made from a seed: random sheets of many shapes, pairs of starts
-//! that are alike or nearly so, variants of a start, and damaged bytes.
+//! that are alike or nearly so, variants of a start, and damaged bytes; and some that are known, document
+//! 01's sheet K and sheets at the desk's limits.
 
 mod alike;
 mod damage;
 mod draft;
+mod known;
 mod random;
 mod shapes;
 
 pub use alike::{alike_pair, variants};
 pub use damage::damage;
 pub use draft::Draft;
+pub use known::{deepest_chain, ladder_and_chain, sheet_k, six_tells};
 pub use random::Rng;
 pub use shapes::{draw, Shape, SHAPES};
 

@@ -1,7 +1,9 @@
-//! Holds the library's three calls to the reference, whole: what they return, every byte of the answer
+//! Holds the library's five calls to the reference, whole: what they return, every byte of the answer
 //! slice, every number of the work slice, and guards around all that is lent.
 
 #![allow(dead_code)]
+
+pub mod pair;
 
 use hofadiju as _;
 use reference::{fast, plain, Judgement, Limits, Returned};
@@ -42,12 +44,41 @@ extern "C" {
         work_len: usize,
         result: *mut usize,
     ) -> u32;
+
+    fn hofadiju_compare_rounds(
+        sheet: *const u8,
+        sheet_len: usize,
+        left: usize,
+        right: usize,
+        rounds: u64,
+        answer: *mut u8,
+        answer_len: usize,
+        work: *mut u32,
+        work_len: usize,
+        result: *mut usize,
+    ) -> u32;
+
+    fn hofadiju_compare_rounds_desk(
+        sheet: *const u8,
+        sheet_len: usize,
+        left: usize,
+        right: usize,
+        rounds: u64,
+        answer: *mut u8,
+        answer_len: usize,
+        work: *mut u32,
+        work_len: usize,
+        result: *mut usize,
+    ) -> u32;
 }
 
-/// The lengths that document 01 names, the desk's answer, and the answer of all starts.
+/// The lengths that document 01 names, the desk's answer, the answer of all starts, and the answers after
+/// so many rounds.
 pub const ANSWER: usize = 10_237;
 pub const DESK_ANSWER: usize = 1_277;
 pub const ALL_ANSWER: usize = 6_690;
+pub const ROUNDS_ANSWER: usize = 6_658;
+pub const DESK_ROUNDS_ANSWER: usize = 834;
 pub const WORK: usize = 16_384;
 
 /// What is lent to a call of the library.
@@ -60,7 +91,7 @@ pub struct Lent {
 
 /// One of the library's calls, which returns `N` numbers, beside the two implementations of it.
 pub trait Call<const N: usize> {
-    /// The starts that are chosen.
+    /// The starts that are chosen, and after how many rounds.
     type Choice: Copy + Debug;
 
     /// The length of an answer slice that always suffices.
@@ -83,7 +114,7 @@ pub trait Call<const N: usize> {
     unsafe fn library(&self, choice: Self::Choice, lent: Lent) -> u32;
 }
 
-/// A call that compares two starts, and its limits.
+/// A call that compares two starts in the end, and its limits.
 #[derive(Clone, Copy)]
 pub struct CompareTwo {
     function: unsafe extern "C" fn(*const u8, usize, usize, usize, *mut u8, usize, *mut u32, usize, *mut usize) -> u32,
@@ -159,6 +190,49 @@ impl Call<3> for CompareAll {
     }
 }
 
+/// A call that compares two starts after so many rounds, and its limits.
+#[derive(Clone, Copy)]
+pub struct CompareRounds {
+    function:
+        unsafe extern "C" fn(*const u8, usize, usize, usize, u64, *mut u8, usize, *mut u32, usize, *mut usize) -> u32,
+    limits: Limits,
+    answer: usize,
+}
+
+const ROUNDS: CompareRounds =
+    CompareRounds { function: hofadiju_compare_rounds, limits: Limits::DOCUMENT, answer: ROUNDS_ANSWER };
+const ROUNDS_DESK: CompareRounds =
+    CompareRounds { function: hofadiju_compare_rounds_desk, limits: Limits::DESK, answer: DESK_ROUNDS_ANSWER };
+
+impl Call<5> for CompareRounds {
+    /// The left and the right start, and the number of rounds.
+    type Choice = (usize, usize, u64);
+
+    fn answer(&self) -> usize {
+        self.answer
+    }
+
+    fn plain(&self, sheet: &[u8], (left, right, rounds): (usize, usize, u64)) -> Judgement<5> {
+        plain::judge_rounds(self.limits, sheet, left, right, rounds)
+    }
+
+    fn fast(
+        &self,
+        comparer: &mut fast::Comparer,
+        sheet: &[u8],
+        (left, right, rounds): (usize, usize, u64),
+        answer: &mut [u8],
+        work: &mut [u32],
+    ) -> Returned<5> {
+        comparer.compare_rounds(self.limits, sheet, (left, right), rounds, answer, work)
+    }
+
+    unsafe fn library(&self, (left, right, rounds): (usize, usize, u64), lent: Lent) -> u32 {
+        let Lent { sheet, answer, work, result } = lent;
+        (self.function)(sheet.0, sheet.1, left, right, rounds, answer.0, answer.1, work.0, work.1, result)
+    }
+}
+
 /// Bytes or numbers before and after each lent slice.
 const GUARD: usize = 64;
 
@@ -215,6 +289,24 @@ impl Harness<CompareAll, 3> {
     }
 }
 
+impl Harness<CompareRounds, 5> {
+    /// For the call that compares after so many rounds.
+    pub fn rounds(seed: u64) -> Harness<CompareRounds, 5> {
+        Harness::of(ROUNDS, seed)
+    }
+
+    /// For the desk's call that does so.
+    pub fn rounds_desk(seed: u64) -> Harness<CompareRounds, 5> {
+        Harness::of(ROUNDS_DESK, seed)
+    }
+
+    /// The number and the place that a sheet's starts 0 and 1 give, held to the reference.
+    pub fn number(&mut self, sheet: &[u8], rounds: u64) -> (u32, usize) {
+        let (number, result) = self.compare_with_all_lengths(sheet, (0, 1, rounds));
+        (number, result[4])
+    }
+}
+
 impl<C: Call<N>, const N: usize> Harness<C, N> {
     fn of(call: C, seed: u64) -> Harness<C, N> {
         let mut rng = Rng::new(seed);
@@ -233,6 +325,11 @@ impl<C: Call<N>, const N: usize> Harness<C, N> {
             calls: 0,
             longest: 0,
         }
+    }
+
+    /// The length of an answer slice that always suffices.
+    pub fn room(&self) -> usize {
+        self.call.answer()
     }
 
     /// What the two implementations say, where they agree. No answer is longer than the answer slice

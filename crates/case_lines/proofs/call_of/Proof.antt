@@ -58,16 +58,38 @@ returns-4 c =
       sym (c .before .is-word4 .ensures) ∙ c .if4 .taken,
     )
 
+slice-aggregate-is-word-5 : tie.Need-slice-aggregate-is-word-5
+slice-aggregate-is-word-5 c = search needs
+
+is-word-requires-5 : tie.Need-is-word-requires-5
+is-word-requires-5 c κs = search needs
+
 returns-5 : tie.Need-returns-5
 returns-5 c =
-    let third = c .before .before .before in
+    let fourth = c .before .before .before in
+    let third = fourth .before .before .before in
     let second = third .before .before .before in
     let first = second .before .before .before in
     rw (
       sym (first .before .is-word .ensures) ∙ first .if1 .left,
       sym (second .before .is-word2 .ensures) ∙ second .if2 .left,
       sym (third .before .is-word3 .ensures) ∙ third .if3 .left,
-      sym (c .before .is-word4 .ensures) ∙ c .if4 .left,
+      sym (fourth .before .is-word4 .ensures) ∙ fourth .if4 .left,
+      sym (c .before .is-word5 .ensures) ∙ c .if5 .taken,
+    )
+
+returns-6 : tie.Need-returns-6
+returns-6 c =
+    let fourth = c .before .before .before in
+    let third = fourth .before .before .before in
+    let second = third .before .before .before in
+    let first = second .before .before .before in
+    rw (
+      sym (first .before .is-word .ensures) ∙ first .if1 .left,
+      sym (second .before .is-word2 .ensures) ∙ second .if2 .left,
+      sym (third .before .is-word3 .ensures) ∙ third .if3 .left,
+      sym (fourth .before .is-word4 .ensures) ∙ fourth .if4 .left,
+      sym (c .before .is-word5 .ensures) ∙ c .if5 .left,
     )
 
 pub call-of-spec : {M : Type 1} → statement M
@@ -86,4 +108,7 @@ call-of-spec =
     slice-aggregate-is-word-4
     is-word-requires-4
     returns-4
-    returns-5)
+    slice-aggregate-is-word-5
+    is-word-requires-5
+    returns-5
+    returns-6)

@@ -1,12 +1,14 @@
 -- `split_rounds` goes on while a round splits a class, so each round but the last has a birth; there are no more classes than
--- members. In each round a member is listed or at rest.
+-- members. In each round a member is listed or at rest. A split behind the limit is taken back.
+use mathlib.Core.Bool.{true, false}
 use mathlib.Core.List.{List}
 use lib.ListN.{length, replicate}
+use Rattle.list_laws.specs.TestLaws.{true-false}
 use Rattle.class_splits.specs.ClassedPlaces.{classed-count}
-use Rattle.class_rounds.specs.RoundsDone.{Ready, Refining, refining-first, refining-shape, refining-classed, refining-lines, refining-next, refining-last}
+use Rattle.class_rounds.specs.RoundsDone.{Ready, Refining, refining-first, refining-shape, refining-classed, refining-lines, refining-next, refining-last, refining-stopped, LastRound, LaterRound}
 use borrow.Author.Needs.{needs}
 use native.Mathlib.Omega.{arith}
-use Prim.Native.Nat.{ℕ, _-_}
+use Prim.Native.Nat.{ℕ, _-_, _≤_}
 use mathlib.Core.Path.{_≡_, refl}
 use Rattle.class_rounds.proofs.split_rounds.Statement.{statement}
 use Rattle.class_rounds.proofs.split_rounds.Tie as tie
@@ -16,12 +18,13 @@ abbrev nobody : List ℕ
 nobody = replicate 8 0
 
 abbrev Inv-loop : tie.InvT-loop
-Inv-loop w₀ sets₀ width n m count₀ list₀ k₀ round₀ w sets count list k round =
+Inv-loop w₀ sets₀ width n m limit count₀ list₀ k₀ round₀ w sets count list k round =
     (length w ≡ length w₀) × (length sets ≡ length sets₀)
     × ((v : List ℕ) → Ready v n m → Refining v n m w₀ sets₀ width list₀ k₀ round₀ count₀ → Refining v n m w sets width list k round count)
+    × (round ≤ limit)
 
 abbrev μ-loop : tie.MeasureT-loop
-μ-loop w₀ sets₀ width n m count₀ list₀ k₀ round₀ w sets count list k round = n - count
+μ-loop w₀ sets₀ width n m limit count₀ list₀ k₀ round₀ w sets count list k round = n - count
 
 -- ---- the stages of the function, each from a later one
 abbrev forget-dominators-of-found-classes : tie.After-found-classes Inv-loop μ-loop → tie.After-forget-dominators Inv-loop μ-loop
@@ -47,6 +50,9 @@ line-listed-of-split-listed s = s .before .before .before .before .before .befor
 
 abbrev split-listed-of-else1 : tie.Else1 Inv-loop μ-loop → tie.After-split-listed Inv-loop μ-loop
 split-listed-of-else1 s = s .before .before .before
+
+abbrev else1-of-restore-classes : tie.After-restore-classes Inv-loop μ-loop → tie.Else1 Inv-loop μ-loop
+else1-of-restore-classes s = s .before .before .before
 
 abbrev start-of-at-loop : tie.At-loop Inv-loop μ-loop → tie.Start Inv-loop μ-loop
 start-of-at-loop s =
@@ -106,7 +112,7 @@ list-all-requires c κs =
     (H .few .0, omega (arith, H .few .0))
 
 loop-holds : tie.Need-loop-holds Inv-loop μ-loop
-loop-holds c = (refl, refl, (λ v Y G. G))
+loop-holds c = (refl, refl, (λ v Y G. G), omega arith)
 
 line-listed-requires : tie.Need-line-listed-requires Inv-loop μ-loop
 line-listed-requires c κs =
@@ -181,11 +187,70 @@ returns c =
     let G = refining-at-loop at-loop in
     let u = at-line-listed .line-listed in
     let s = at-split-listed .split-listed in
-    refining-last v (g .n) (g .m) (l .work) (l .sets) (g .width) (l .list) (l .k) (l .round) (l .count) G (u .last .0) (u .last .1 .0) (u .ensures) (s .last .0) (s .result) (s .ensures) (c .if1 .taken)
+    let x = refining-last v (g .n) (g .m) (l .work) (l .sets) (g .width) (l .list) (l .k) (l .round) (l .count) G (u .last .0) (u .last .1 .0) (u .ensures) (s .last .0) (s .result) (s .ensures) (c .if1 .taken) in
+    (x .0, record { within = l .inv .3; result = λ e. x .1; later = λ e. true-false {A = (l .round ≡ g .limit) × LaterRound v (g .n) (g .m) (l .round)} true refl e })
+
+restore-classes-requires : tie.Need-restore-classes-requires Inv-loop μ-loop
+restore-classes-requires c κs =
+    let at-split-listed = split-listed-of-else1 (c .before .before) in
+    let at-line-listed = line-listed-of-split-listed at-split-listed in
+    let at-loop = at-loop-of-line-listed at-line-listed in
+    let b = start-of-at-loop at-loop in
+    let G = refining-at-loop at-loop in
+    let u = at-line-listed .line-listed in
+    let s = at-split-listed .split-listed in
+    let H = b .pre .0 .ready .held in (
+      H .few .0,
+      omega (arith, H .long, G .same-set .long, u .ensures .only .long, s .ensures .only .long),
+      (λ i l. omega (arith, s .ensures .classed .known i l, classed-count (s .ensures .classed), H .few .0)),
+    )
+
+same-length-3 : tie.Need-same-length-3 Inv-loop μ-loop
+same-length-3 c =
+    let at-restore-classes = c .before .before in
+    let at-split-listed = split-listed-of-else1 (else1-of-restore-classes at-restore-classes) in
+    let at-line-listed = line-listed-of-split-listed at-split-listed in
+    let at-loop = at-loop-of-line-listed at-line-listed in
+    let u = at-line-listed .line-listed in
+    let s = at-split-listed .split-listed in
+    omega (
+      arith,
+      refining-at-loop at-loop .same-set .long,
+      u .ensures .only .long,
+      s .ensures .only .long,
+      at-restore-classes .restore-classes .ensures .only .long,
+    )
+
+same-length-4 : tie.Need-same-length-4 Inv-loop μ-loop
+same-length-4 c =
+    let at-restore-classes = c .before .before in
+    let at-split-listed = split-listed-of-else1 (else1-of-restore-classes at-restore-classes) in
+    let at-line-listed = line-listed-of-split-listed at-split-listed in
+    let at-loop = at-loop-of-line-listed at-line-listed in
+    let u = at-line-listed .line-listed in
+    omega (arith, at-loop .loop .inv .1, u .ensures .grown .long)
+
+returns-2 : tie.Need-returns-2 Inv-loop μ-loop
+returns-2 c =
+    let at-restore-classes = c .before .before in
+    let at-else1 = else1-of-restore-classes at-restore-classes in
+    let at-split-listed = split-listed-of-else1 at-else1 in
+    let at-line-listed = line-listed-of-split-listed at-split-listed in
+    let at-loop = at-loop-of-line-listed at-line-listed in
+    let b = start-of-at-loop at-loop in
+    let g = b .args in
+    let v : List ℕ = g .work .now in
+    let l = at-loop .loop in
+    let G = refining-at-loop at-loop in
+    let u = at-line-listed .line-listed in
+    let s = at-split-listed .split-listed in
+    let r = at-restore-classes .restore-classes in
+    let x = refining-stopped v (g .n) (g .m) (l .work) (l .sets) (g .width) (l .list) (l .k) (l .round) (l .count) G (u .last .0) (u .last .1 .0) (u .ensures) (s .last .0) (s .result) (s .ensures) (at-else1 .if1 .left) (r .last .0) (r .ensures) in
+    (x .0, record { within = l .inv .3; result = λ e. true-false {A = LastRound v (g .n) (g .m) (l .round)} false e refl; later = λ e. (at-restore-classes .before .before .if2 .taken, x .1) })
 
 list-next-requires : tie.Need-list-next-requires Inv-loop μ-loop
 list-next-requires c κs =
-    let at-else1 = c .before .before .before in
+    let at-else1 = c .before .before .before .before in
     let at-split-listed = split-listed-of-else1 at-else1 in
     let at-line-listed = line-listed-of-split-listed at-split-listed in
     let at-loop = at-loop-of-line-listed at-line-listed in
@@ -206,7 +271,8 @@ list-next-requires c κs =
 
 add-round : tie.Need-add-round Inv-loop μ-loop
 add-round c =
-    let at-else1 = c .before .before .before .before .before .before in
+    let at-else2 = c .before .before .before .before .before .before in
+    let at-else1 = at-else2 .before in
     let at-split-listed = split-listed-of-else1 at-else1 in
     let at-line-listed = line-listed-of-split-listed at-split-listed in
     let at-loop = at-loop-of-line-listed at-line-listed in
@@ -216,14 +282,16 @@ add-round c =
 
 loop-less : tie.Need-loop-less Inv-loop μ-loop
 loop-less c =
-    let at-else1 = c .before .before .before .before .before .before in
+    let at-else2 = c .before .before .before .before .before .before in
+    let at-else1 = at-else2 .before in
     let at-split-listed = split-listed-of-else1 at-else1 in
     let s = at-split-listed .split-listed in
     omega (arith, s .ensures .more, classed-count (s .ensures .classed), at-else1 .if1 .left)
 
 loop-again : tie.Need-loop-again Inv-loop μ-loop
 loop-again c =
-    let at-else1 = c .before .before .before .before .before .before in
+    let at-else2 = c .before .before .before .before .before .before in
+    let at-else1 = at-else2 .before in
     let at-split-listed = split-listed-of-else1 at-else1 in
     let at-line-listed = line-listed-of-split-listed at-split-listed in
     let at-loop = at-loop-of-line-listed at-line-listed in
@@ -238,6 +306,7 @@ loop-again c =
       (λ v Y G. refining-next v (g .n) (g .m) (l .work) (l .sets) (g .width) (l .list) (l .k) (l .round) (l .count) (l .inv .2 v Y G)
           (u .last .0) (u .last .1 .0) (u .ensures) (s .last .0) (s .result) (s .ensures) (at-else1 .if1 .left)
           (x .last .0) (x .last .1 .1 .1 .1 .1 .0) (x .result) (x .ensures)),
+      omega (arith, l .inv .3, at-else2 .if2 .left),
     )
 
 pub split-rounds-spec : {M : Type 1} → statement M
@@ -258,6 +327,10 @@ split-rounds-spec =
     same-length
     same-length-2
     returns
+    restore-classes-requires
+    same-length-3
+    same-length-4
+    returns-2
     list-next-requires
     add-round
     loop-less

@@ -2,7 +2,10 @@
 -- the work slice is cleared.
 use borrow.Author.Needs.{needs}
 use Rattle.found_set.specs.FoundSet.{limitsOf}
-use Rattle.compare_call.specs.ComparedLaws.{call-refused, call-ready, call-room, call-reported}
+use Rattle.comparison.specs.Report.{reportOn, reportBytes}
+use Rattle.answers.specs.Returned.{returned}
+use Rattle.pair_calls.specs.PairAnswered.{pair-refused, pair-ready, pair-room, pair-given}
+use Rattle.compare_call.specs.ComparedLaws.{compared-pair}
 use Rattle.compare_call.proofs.compare_within.Statement.{statement}
 use Rattle.compare_call.proofs.compare_within.Tie as tie
 
@@ -40,7 +43,7 @@ report-set-requires c κs =
     let pair = at-begin-pair .begin-pair in
     let set = at-begun2 .begun2 in
     let args = start .args in
-    call-ready (limitsOf (args .caps)) (args .sheet .now) (args .left) (args .right) (args .work .now) (args .answer .now)
+    pair-ready reportBytes returned reportOn (limitsOf (args .caps)) (args .sheet .now) (args .left) (args .right) (args .work .now) (args .answer .now)
     (pair .last .1 .1 .1 .0) (pair .result) (pair .ensures) (set .given .1)
 
 clear-work-requires : tie.Need-clear-work-requires
@@ -53,7 +56,7 @@ clear-work-requires c κs =
     let set = at-begun2 .begun2 in
     let report = at-report-set .report-set in
     let args = start .args in
-    call-room (limitsOf (args .caps)) (args .sheet .now) (args .left) (args .right) (args .work .now) (args .answer .now)
+    pair-room reportBytes returned reportOn (limitsOf (args .caps)) (args .sheet .now) (args .left) (args .right) (args .work .now) (args .answer .now)
     (pair .last .1 .1 .1 .0) (pair .result) (pair .ensures) (set .given .1) (report .ensures)
 
 same-length : tie.Need-same-length
@@ -67,8 +70,9 @@ returns c =
     let pair = at-begin-pair .begin-pair in
     let told = at-begun .begun in
     let args = start .args in
-    call-refused (limitsOf (args .caps)) (args .sheet .now) (args .left) (args .right) (args .work .now) (args .answer .now)
-    (pair .last .1 .1 .1 .0) (pair .result) (pair .ensures) (told .given .1)
+    compared-pair (limitsOf (args .caps)) (args .sheet .now) (args .left) (args .right)
+    (pair-refused reportBytes returned reportOn (limitsOf (args .caps)) (args .sheet .now) (args .left) (args .right) (args .work .now) (args .answer .now)
+    (pair .last .1 .1 .1 .0) (pair .result) (pair .ensures) (told .given .1))
 
 same-length-2 : tie.Need-same-length-2
 same-length-2 c = search needs
@@ -88,9 +92,10 @@ returns-2 c =
     let report = at-report-set .report-set in
     let clear = at-clear-work .clear-work in
     let args = start .args in
-    call-reported (limitsOf (args .caps)) (args .sheet .now) (args .left) (args .right) (args .work .now) (args .answer .now)
+    compared-pair (limitsOf (args .caps)) (args .sheet .now) (args .left) (args .right)
+    (pair-given reportBytes returned reportOn (limitsOf (args .caps)) (args .sheet .now) (args .left) (args .right) (args .work .now) (args .answer .now)
     (pair .last .1 .1 .1 .0) (pair .result) (pair .ensures) (set .given .1)
-    (report .ensures) (clear .ensures)
+    (report .ensures) (clear .ensures))
 
 pub compare-within-spec : {M : Type 1} → statement M
 compare-within-spec =

@@ -33,13 +33,13 @@ number-classes-requires : tie.Need-number-classes-requires
 number-classes-requires c κs =
     let at-refine = c .before .before .before in
     let pre = start-of-refine at-refine .pre in
-    rounds-number-ready (at-refine .refine .ensures .rounds-held (pre .sheet) (pre .set) (pre .all .ready))
+    rounds-number-ready (at-refine .refine .ensures .0 .rounds-held (pre .sheet) (pre .set) (pre .all .ready))
 
 members-length-requires : tie.Need-members-length-requires
 members-length-requires c κs =
     let at-number = c .before .before .before in
     let at-refine = refine-of-number-classes at-number in
-    grouping-members (at-refine .refine .ensures) (at-number .number-classes .ensures) (start-of-refine at-refine .pre .all)
+    grouping-members (at-refine .refine .ensures .0) (at-number .number-classes .ensures) (start-of-refine at-refine .pre .all)
 
 mul-length : tie.Need-mul-length
 mul-length c =
@@ -51,7 +51,7 @@ add-length c =
     let at-number = number-classes-of-members-length c in
     let at-refine = refine-of-number-classes at-number in
     let start = start-of-refine at-refine in
-    let held = grouping-members (at-refine .refine .ensures) (at-number .number-classes .ensures) (start .pre .all) in
+    let held = grouping-members (at-refine .refine .ensures .0) (at-number .number-classes .ensures) (start .pre .all) in
     search (
       needs,
       start .pre .count,
@@ -64,7 +64,7 @@ same-length : tie.Need-same-length
 same-length c =
     let at-number = number-classes-of-members-length (c .before) in
     let at-refine = refine-of-number-classes at-number in
-    grouping-outside (at-refine .refine .ensures) (at-number .number-classes .ensures) .long
+    grouping-outside (at-refine .refine .ensures .0) (at-number .number-classes .ensures) .long
 
 returns : tie.Need-returns
 returns c =
@@ -72,7 +72,7 @@ returns c =
     let at-number = number-classes-of-members-length at-length in
     let at-refine = refine-of-number-classes at-number in
     let args = start-of-refine at-refine .args in
-    grouping-refused (at-refine .refine .ensures) (at-number .number-classes .ensures) (args .starts) (args .k) (args .answer .now) _
+    grouping-refused (at-refine .refine .ensures .0) (at-number .number-classes .ensures) (at-refine .refine .ensures .1) (args .starts) (args .k) (args .answer .now) _
     (omega (arith, at-length .members-length .ensures, grouping-length (at-number .number-classes .last .0) (args .n) (args .starts) (args .k)))
     (c .if1 .taken)
 
@@ -81,7 +81,7 @@ put-members-requires c κs =
     let at-length = c .before .before .before in
     let at-number = number-classes-of-members-length at-length in
     let at-refine = refine-of-number-classes at-number in
-    (grouping-members (at-refine .refine .ensures) (at-number .number-classes .ensures) (start-of-refine at-refine .pre .all), omega (arith, at-length .members-length .ensures, c .before .before .if1 .left))
+    (grouping-members (at-refine .refine .ensures .0) (at-number .number-classes .ensures) (start-of-refine at-refine .pre .all), omega (arith, at-length .members-length .ensures, c .before .before .if1 .left))
 
 put-starts-requires : tie.Need-put-starts-requires
 put-starts-requires c κs =
@@ -92,7 +92,7 @@ put-starts-requires c κs =
     let at-refine = refine-of-number-classes at-number in
     let pre = start-of-refine at-refine .pre in
     let stored = at-members .put-members .ensures in (
-      grouping-starts (at-refine .refine .ensures) (at-number .number-classes .ensures) (pre .all) pre,
+      grouping-starts (at-refine .refine .ensures .0) (at-number .number-classes .ensures) (pre .all) pre,
       omega (arith, at-length .members-length .ensures, at-else .if1 .left, stored .place, stored-length stored),
     )
 
@@ -100,7 +100,7 @@ same-length-2 : tie.Need-same-length-2
 same-length-2 c =
     let at-number = number-classes-of-members-length (else1-of-put-members (put-members-of-put-starts (c .before .before)) .before) in
     let at-refine = refine-of-number-classes at-number in
-    grouping-outside (at-refine .refine .ensures) (at-number .number-classes .ensures) .long
+    grouping-outside (at-refine .refine .ensures .0) (at-number .number-classes .ensures) .long
 
 same-length-3 : tie.Need-same-length-3
 same-length-3 c =
@@ -116,7 +116,7 @@ returns-2 c =
     let at-number = number-classes-of-members-length at-length in
     let at-refine = refine-of-number-classes at-number in
     let args = start-of-refine at-refine .args in
-    grouping-given (at-refine .refine .ensures) (at-number .number-classes .ensures) (args .starts) (args .k) (args .answer .now) _
+    grouping-given (at-refine .refine .ensures .0) (at-number .number-classes .ensures) (at-refine .refine .ensures .1) (args .starts) (args .k) (args .answer .now) _
     (omega (arith, at-length .members-length .ensures, grouping-length (at-number .number-classes .last .0) (args .n) (args .starts) (args .k)))
     (omega (arith, at-else .if1 .left)) (at-members .put-members .ensures) (at-starts .put-starts .ensures)
 

@@ -2,7 +2,8 @@
 -- reads both verdict and trail from the births of classes, before classes get the numbers of the report.
 use Rattle.sheet_types.specs.HeldSheet.{configuration}
 use Rattle.separations.specs.ApartClasses.{rounds-fall, places-fall}
-use Rattle.set_report.specs.ReportMadeLaws.{starts-ready, report-ready, rounds-follow, member-found, rounds-numbered, report-held, report-outside, made-refused, made-reported}
+use Rattle.two_starts.specs.TwoStarts.{starts-ready, rounds-ready}
+use Rattle.set_report.specs.ReportMadeLaws.{rounds-follow, member-found, rounds-numbered, report-held, report-outside, made-short, made-reported}
 use native.Mathlib.Omega.{arith}
 use borrow.Author.Needs.{needs}
 use Rattle.set_report.proofs.report_set.Statement.{statement}
@@ -26,7 +27,7 @@ report-length-of-put-report s = s .before .before .before .before
 
 -- ---- what is left to show
 refine-requires : tie.Need-refine-requires
-refine-requires c κs = report-ready (c .before .before .before .pre)
+refine-requires c κs = rounds-ready (c .before .before .before .pre)
 
 add-last : tie.Need-add-last
 add-last c = search needs
@@ -52,7 +53,7 @@ apart-at-requires c κs =
     let r = x .before .before .before .before .before in
     let b = r .before .before .before .before in
     let S = b .pre .starts in
-    let H = r .refine .ensures .rounds-held (b .pre .sheet) (b .pre .set) (starts-ready S) in
+    let H = r .refine .ensures .0 .rounds-held (b .pre .sheet) (b .pre .set) (starts-ready S) in
     let i = member-found H (configuration (b .args .p)) (S .left) (x .numbers .result) (f .find-member .result) (x .numbers .ensures)
     (f .find-member .ensures) in
     let j = member-found H (configuration (b .args .q)) (S .right) (y .numbers2 .result) (g .find-member2 .result)
@@ -72,19 +73,19 @@ trail-requires c κs =
     let r = x .before .before .before .before .before in
     let b = r .before .before .before .before in
     let S = b .pre .starts in
-    let H = r .refine .ensures .rounds-held (b .pre .sheet) (b .pre .set) (starts-ready S) in
+    let H = r .refine .ensures .0 .rounds-held (b .pre .sheet) (b .pre .set) (starts-ready S) in
     let i = member-found H (configuration (b .args .p)) (S .left) (x .numbers .result) (f .find-member .result) (x .numbers .ensures)
     (f .find-member .ensures) in
     let j = member-found H (configuration (b .args .q)) (S .right) (y .numbers2 .result) (g .find-member2 .result)
     (y .numbers2 .ensures) (g .find-member2 .ensures) in
-    (rounds-follow H, i .0, j .0)
+    (rounds-follow H (r .refine .ensures .1 (b .pre .sheet) (b .pre .set) (starts-ready S)), i .0, j .0)
 
 number-classes-requires : tie.Need-number-classes-requires
 number-classes-requires c κs =
     let t = c .before .before .before in
     let r = refine-of-trail t in
     let b = r .before .before .before .before in
-    let H = r .refine .ensures .rounds-held (b .pre .sheet) (b .pre .set) (starts-ready (b .pre .starts)) in
+    let H = r .refine .ensures .0 .rounds-held (b .pre .sheet) (b .pre .set) (starts-ready (b .pre .starts)) in
     rounds-numbered H (t .trail .ensures .outside)
 
 report-length-requires : tie.Need-report-length-requires
@@ -93,7 +94,7 @@ report-length-requires c κs =
     let t = d .before .before .before .before in
     let r = refine-of-trail t in
     let b = r .before .before .before .before in
-    report-held (r .refine .ensures) (t .trail .ensures) (d .number-classes .ensures) (b .pre .starts)
+    report-held (r .refine .ensures .0) (t .trail .ensures) (d .number-classes .ensures) (r .refine .ensures .1) (b .pre .starts)
 
 same-length : tie.Need-same-length
 same-length c = search needs
@@ -110,7 +111,7 @@ returns c =
     let x = f .before in
     let r = x .before .before .before .before .before in
     let b = r .before .before .before .before in
-    made-refused (r .refine .ensures) (t .trail .ensures) (d .number-classes .ensures) (b .args .p) (b .args .q) (x .numbers .result)
+    made-short (r .refine .ensures .0) (r .refine .ensures .1) (t .trail .ensures) (d .number-classes .ensures) (b .args .p) (b .args .q) (x .numbers .result)
     (y .numbers2 .result) (x .numbers .ensures) (f .find-member .ensures) (y .numbers2 .ensures) (g .find-member2 .ensures)
     (l .report-length .result) (l .report-length .ensures) (b .args .answer .now)
     (c .if1 .taken)
@@ -122,7 +123,7 @@ put-report-requires c κs =
     let t = d .before .before .before .before in
     let r = refine-of-trail t in
     let b = r .before .before .before .before in (
-      report-held (r .refine .ensures) (t .trail .ensures) (d .number-classes .ensures) (b .pre .starts),
+      report-held (r .refine .ensures .0) (t .trail .ensures) (d .number-classes .ensures) (r .refine .ensures .1) (b .pre .starts),
       omega (arith, l .report-length .ensures, c .before .before .if1 .left),
     )
 
@@ -134,7 +135,7 @@ same-length-2 c =
     let d = number-classes-of-report-length (report-length-of-put-report (c .before .before .before)) in
     let t = d .before .before .before .before in
     let r = refine-of-trail t in
-    report-outside (r .refine .ensures) (t .trail .ensures) (d .number-classes .ensures) .long
+    report-outside (r .refine .ensures .0) (t .trail .ensures) (d .number-classes .ensures) .long
 
 same-length-3 : tie.Need-same-length-3
 same-length-3 c = search needs
@@ -153,7 +154,7 @@ returns-2 c =
     let r = x .before .before .before .before .before in
     let b = r .before .before .before .before in
     rw (c .verdict-on .ensures)
-    (made-reported (r .refine .ensures) (t .trail .ensures) (d .number-classes .ensures) (b .args .p) (b .args .q)
+    (made-reported (r .refine .ensures .0) (r .refine .ensures .1) (t .trail .ensures) (d .number-classes .ensures) (b .args .p) (b .args .q)
     (x .numbers .result) (y .numbers2 .result) (x .numbers .ensures) (f .find-member .ensures) (y .numbers2 .ensures)
     (g .find-member2 .ensures) (l .report-length .result) (l .report-length .ensures) (b .args .answer .now)
     (omega (arith, c .before .before .before .before .before .before .if1 .left)) (a .apart-at .result) (a .apart-at .ensures)

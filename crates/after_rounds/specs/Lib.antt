@@ -1,0 +1,4 @@
+pub mod AfterRounds
+pub mod AfterRoundsRead
+pub mod AfterRoundsPromise
+pub mod KnownAfters

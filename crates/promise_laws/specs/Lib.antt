@@ -1,0 +1,2 @@
+pub mod PromiseKept
+pub mod PromiseAlone

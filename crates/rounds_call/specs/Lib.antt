@@ -1,0 +1,2 @@
+pub mod ComparedRounds
+pub mod ComparedRoundsLaws

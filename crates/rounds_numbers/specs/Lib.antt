@@ -1,0 +1,2 @@
+pub mod RoundsNumbers
+pub mod RoundsNumberLaws

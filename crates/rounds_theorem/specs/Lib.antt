@@ -1,0 +1,5 @@
+pub mod ToldLaws
+pub mod AfterTheorem
+pub mod AfterPromiseLaws
+pub mod AfterSentences
+pub mod AfterAlone

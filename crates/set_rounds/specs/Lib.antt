@@ -1,0 +1,2 @@
+pub mod RoundMade
+pub mod RoundMadeLaws
