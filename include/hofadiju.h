@@ -201,7 +201,8 @@ uint32_t hofadiju_compare_rounds(const uint8_t *sheet, size_t sheet_len, size_t 
 /* Compares as hofadiju_compare_rounds does, within the desk's limits, which are those of
  * hofadiju_compare_desk. 21 goes by these numbers. All else is the same.
  *
- * Where both functions answer, they return and write the same.
+ * Where both functions answer, they return and write the same. Where this one gives 21, the other may
+ * answer, or give 21, or give 22 for a short answer slice; otherwise the two refuse alike.
  */
 uint32_t hofadiju_compare_rounds_desk(const uint8_t *sheet, size_t sheet_len, size_t left, size_t right,
                                       uint64_t rounds, uint8_t *answer, size_t answer_len, uint32_t *work,

@@ -17,6 +17,7 @@ use Rattle.comparison.specs.Outcome.{cleared}
 use Rattle.comparison.specs.Promise.{RefusesBy, GivesBy, PromiseBy, ResultRound, SetListed, startsOf}
 use Rattle.answers.specs.declared.Reported.{Reported}
 use Rattle.call_promise.specs.CallPromise.{reportRead}
+use Rattle.call_promise.specs.TwoCalls.{LowerBy}
 use Rattle.after_rounds.specs.AfterRounds.{SAME, DIFF, AfterRounds, afterOn, afterBytes, afterLength}
 use Rattle.after_rounds.specs.AfterRoundsRead.{reachedOf, afterRead}
 use Rattle.after_rounds.specs.declared.Verdict.{Verdict}
@@ -96,6 +97,11 @@ pub record Unaltered (x y : Reached) : Type 0 where
 pub record OneAnswer (x : Reached) (after : List ℕ) (y : Reached) (after2 : List ℕ) : Type 0 where
   pub returns : x ≡ y
   pub written : take (x .length) after ≡ take (y .length) after2
+
+-- Card 3's sentence for this call: one input and the same slices, the first call within limits l, which are nowhere above those of the
+-- second.
+abbrev pub LowerRounds : Limits → List ℕ → ℕ → ℕ → List ℕ → List ℕ → RoundsAnswer → List ℕ → List ℕ → RoundsAnswer → Type 0
+LowerRounds = LowerBy Refused
 
 -- a report's verdict
 abbrev pub reportVerdict : Bool → Verdict

@@ -15,7 +15,7 @@ use Rattle.answers.specs.declared.Answer.{Answer}
 use Rattle.answers.specs.declared.Answer.the-variants.{Refused}
 
 -- the two did the same: what was returned, and both slices
-pub record OneCall (w after : List ℕ) (answer : Answer) (w2 after2 : List ℕ) (answer2 : Answer) : Type 0 where
+pub record OneCall {R : Type 0} (w after : List ℕ) (answer : R) (w2 after2 : List ℕ) (answer2 : R) : Type 0 where
   pub answers : answer ≡ answer2
   pub bytes : after ≡ after2
   pub works : w ≡ w2
@@ -32,9 +32,15 @@ pub record LargeBy (l : Limits) (bytes : List ℕ) (left right : ℕ) : Type 0 w
   pub chosen : ChoiceIs bytes left right sheet
   pub passes : PassesLimit sheet l (startsOf sheet left right)
 
--- Card 3, of one input and the same slices: the first call within limits l, which are nowhere above those of the second.
-pub record LowerCall (l : Limits) (bytes : List ℕ) (left right : ℕ) (w after : List ℕ) (answer : Answer) (w2 after2 : List ℕ) (answer2 : Answer) : Type 0 where
+-- Card 3, of one input and the same slices, for any call on two starts, whose refusals are `refuse`: the first call within limits l, which
+-- are nowhere above those of the second.
+pub record LowerBy {R : Type 0} (refuse : ℕ → ℕ → R) (l : Limits) (bytes : List ℕ) (left right : ℕ) (w after : List ℕ) (answer : R)
+    (w2 after2 : List ℕ) (answer2 : R) : Type 0 where
   -- the two do the same, or the lower gives 21 by its own numbers
-  pub apart : OneCall w after answer w2 after2 answer2 ⊎ ((answer ≡ Refused largeSet 0) × LargeBy l bytes left right)
-  -- where the higher refuses by another number than 22, the two do the same: beside the lower's 21 it reports, or gives 21 or 22
-  pub higher-refuses : (number place : ℕ) → answer2 ≡ Refused number place → (number ≡ shortAnswer → ⊥) → OneCall w after answer w2 after2 answer2
+  pub apart : OneCall w after answer w2 after2 answer2 ⊎ ((answer ≡ refuse largeSet 0) × LargeBy l bytes left right)
+  -- where the higher refuses by another number than 22, the two do the same: beside the lower's 21 it gives an answer, 21 or 22
+  pub higher-refuses : (number place : ℕ) → answer2 ≡ refuse number place → (number ≡ shortAnswer → ⊥) → OneCall w after answer w2 after2 answer2
+
+-- the comparing call
+abbrev pub LowerCall : Limits → List ℕ → ℕ → ℕ → List ℕ → List ℕ → Answer → List ℕ → List ℕ → Answer → Type 0
+LowerCall = LowerBy Refused

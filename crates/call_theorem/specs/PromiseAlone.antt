@@ -8,7 +8,8 @@ use Rattle.answers.specs.declared.Answer.{Answer}
 use Rattle.call_promise.specs.CallPromise.{CallPromise}
 use Rattle.call_promise.specs.TwoCalls.{OneCall}
 use Rattle.promise_laws.specs.PromiseAlone as every
-use Rattle.call_theorem.specs.TwoCallLaws.{one-call, report-fixes}
+use Rattle.promise_laws.specs.PromiseLower.{one-call}
+use Rattle.call_theorem.specs.TwoCallLaws.{report-fixes}
 
 -- nothing that is returned or left is free
 pub promise-alone : (l : Limits) (bytes : List ℕ) (left right : ℕ) (v before : List ℕ) {w after : List ℕ} {answer : Answer} {w2 after2 : List ℕ} {answer2 : Answer}

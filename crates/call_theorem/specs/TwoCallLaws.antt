@@ -1,30 +1,30 @@
 -- Two calls that keep the promise, each within limits of its own.
 use mathlib.Core.Path.{_≡_, refl, sym, ap, _∙_}
-use mathlib.Core.Logic.{_⊎_, inl, inr}
 use mathlib.Core.List.{List, _++_}
 use Prim.Native.Nat.{ℕ, _≤_}
 use native.Mathlib.Omega.{arith}
 use lib.ListN.{length, take, drop}
 use lib.Seq.{take-append-seam}
-use Rattle.sheets.specs.Refusals.{largeSet, shortAnswer}
+use Rattle.sheets.specs.Refusals.{shortAnswer}
+use Rattle.sheets.specs.SheetBytes.{ChoiceIs, ChoiceRefused}
 use Rattle.sheet_reading.specs.SheetRead.{choice-reads}
 use Rattle.sheet_laws.specs.RefusalNumbers.{number-low}
 use Rattle.comparison.specs.CallLimits.{Limits, NoGreater, limits, deskLimits, reportRoom}
 use Rattle.comparison.specs.Report as spec
-use Rattle.comparison.specs.Report.{reportBytes}
+use Rattle.comparison.specs.Report.{reportBytes, reportLength}
 use Rattle.comparison.specs.Call.{compare, compareDesk}
-use Rattle.comparison.specs.Promise.{large-set}
-use Rattle.comparison_laws.specs.CallTheorem.{report-room, room-suffices}
+use Rattle.comparison.specs.Promise.{reportFor, startsOf, Reports}
+use Rattle.comparison_laws.specs.CallTheorem.{call-gives, report-room, room-suffices}
 use Rattle.comparison_laws.specs.RoomLaws.{never-short-answer}
-use Rattle.comparison_laws.specs.LimitLaws.{desk-no-greater, reports-same, refuses-lower, Beside, report-of-both, refusal-of-both, lower-large, beside}
+use Rattle.comparison_laws.specs.LimitLaws.{desk-no-greater, report-same, gives-same, one-choice}
 use Rattle.answers.specs.declared.Reported.{Reported}
 use Rattle.answers.specs.declared.Answer.{Answer}
 use Rattle.answers.specs.declared.Answer.the-variants.{Report, Refused}
 use Rattle.answers.specs.Returned.{returnedOf}
-use Rattle.promise_laws.specs.PromiseAlone.{both-refuse, both-give}
+use Rattle.promise_laws.specs.PromiseLower.{lower-kept}
 use Rattle.compare_call.specs.Compared.{Compared}
 use Rattle.call_promise.specs.CallPromise.{reportRead, ReportPromise, CallPromise}
-use Rattle.call_promise.specs.TwoCalls.{OneCall, OneReport, LargeBy, LowerCall}
+use Rattle.call_promise.specs.TwoCalls.{OneReport, LowerCall}
 use Rattle.call_theorem.specs.CallPromiseLaws.{same-report, document-promise, desk-promise}
 
 -- ---- a report, whatever the slices
@@ -56,10 +56,12 @@ module _ (l : Limits) (bytes : List ℕ) (left right : ℕ) where
       (λ k x. omega (arith, number-low bytes left right shortAnswer k (choice-reads bytes left right .is-refused shortAnswer k x) .within))
       (λ sheet c none. omega (arith, room, report-room l bytes left right sheet c none)) (a .refused shortAnswer place e .refuses)
 
--- what is said of both calls in every case
-pub one-call : {w after : List ℕ} {answer : Answer} {w2 after2 : List ℕ} {answer2 : Answer} → (answer ≡ answer2) × (after ≡ after2) × (w ≡ w2)
-    → OneCall w after answer w2 after2 answer2
-one-call x = record { answers = x .0; bytes = x .1; works = x .2 }
+-- reports of one sheet and one choice are one
+reports-same : (l h : Limits) (bytes : List ℕ) (left right : ℕ) {work answer work2 answer2 : ℕ} {r s : spec.Report}
+    → Reports l bytes left right work answer r → Reports h bytes left right work2 answer2 s → r ≡ s
+reports-same l h bytes left right =
+    gives-same (ChoiceIs bytes left right) (ChoiceRefused bytes left right) (λ sheet. startsOf sheet left right) (λ k sheet. reportFor k sheet left right)
+    reportLength (one-choice bytes left right) (λ k j sheet. report-same k j sheet left right) l h
 
 module _ (l h : Limits) (bytes : List ℕ) (left right : ℕ) where
   -- Where both report, what they return and write is the same.
@@ -88,18 +90,8 @@ module _ (l h : Limits) (bytes : List ℕ) (left right : ℕ) where
     -- Card 3, for any two limits of which the first are nowhere above the second.
     pub lower-call : NoGreater l h → LowerCall l bytes left right w after answer w2 after2 answer2
     lower-call le =
-        record {
-          apart = given (beside l h bytes left right le);
-          higher-refuses = λ number place e n.
-              one-call (both-refuse a b (refuses-lower l h bytes left right le (b .refused number place e .refuses) n) (b .refused number place e .refuses));
-        }
-      where
-        given : Beside l h bytes left right (length v) (length before)
-            → OneCall w after answer w2 after2 answer2 ⊎ ((answer ≡ Refused largeSet 0) × LargeBy l bytes left right)
-        given (report-of-both x y) = inl (one-call (both-give a b (λ z. report-fixes) x y))
-        given (refusal-of-both x y) = inl (one-call (both-refuse a b x y))
-        given (lower-large sheet e k p) =
-            inr (a .to-refuse largeSet 0 (large-set sheet e k p), record { sheet = sheet; chosen = e; passes = p })
+        lower-kept bytes left right (λ k sheet. reportFor k sheet left right) reportLength (λ k j sheet. report-same k j sheet left right) l h le a b
+        (λ x. report-fixes) (call-gives l bytes left right (length v) (length before))
 
 -- ---- the desk's call beside document 01's, from the contracts of both
 module _ (bytes : List ℕ) (left right : ℕ) where

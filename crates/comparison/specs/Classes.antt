@@ -41,6 +41,6 @@ classOf set classes p = getD classes (placeOf set p) 0
 abbrev pub share : List Configuration → List ℕ → Configuration → Configuration → Bool
 share set classes p q = eqb (classOf set classes p) (classOf set classes q)
 
--- how many classes these numbers stand for: each number counts once
+-- how many classes these numbers stand for (document 02, card 13): each number counts once
 abbrev pub classTotal : List ℕ → ℕ
 classTotal numbers = length (arrange ltb numbers)

@@ -1,6 +1,7 @@
 -- One input within two limits. Where neither is passed the set is one list, so the report is one; what passes a limit passes every
 -- lower one; and of the refusals only 21 goes by the limits, with 22 behind it.
 use mathlib.Core.Path.{_≡_, refl, sym, ap, _∙_, subst}
+use mathlib.Core.Logic.{_↔_, _⊎_, inl, inr}
 use mathlib.Core.Bool.{false}
 use mathlib.Core.List.{List}
 use Prim.Native.Nat.{ℕ, _≤_, _<_}
@@ -14,10 +15,10 @@ use Rattle.sheet_reading.specs.SheetRead.{one-sheet}
 use Rattle.move_laws.specs.OrderLaws.{configurationOrder}
 use Rattle.comparison.specs.CallLimits.{Limits, NoGreater, limits, deskLimits, workLength}
 use Rattle.comparison.specs.Set.{over, explored}
-use Rattle.comparison.specs.Report.{Report, reportOn, reportLength, Compares}
-use Rattle.comparison.specs.Promise.{PassesLimit, many-members, many-threads, many-moves, reportFor, startsOf, Refuses, by-sheet, short-work, large-set, short-answer, Reports}
-use Rattle.comparison_laws.specs.FrameTheorem.{gives-report, gives-refusal}
-use Rattle.comparison_laws.specs.CallTheorem.{Gives, call-gives}
+use Rattle.comparison.specs.Report.{reportOn}
+use Rattle.comparison.specs.Outcome.{Outcome, reported, refusal}
+use Rattle.comparison.specs.Promise.{PassesLimit, many-members, many-threads, many-moves, reportFor, startsOf, RefusesBy, by-sheet, short-work, large-set, short-answer, GivesBy}
+use Rattle.comparison_laws.specs.FrameTheorem.{Decides, gives-report, gives-refusal}
 use Rattle.comparison_laws.specs.SetLaws.{explored-member, explored-complete, explored-ascends, fits-not-over, fits-unpassed}
 
 -- limits are nowhere above themselves
@@ -62,72 +63,91 @@ report-same l h sheet left right nl nh =
     ap (λ (set : List Configuration). reportOn sheet set (start sheet left) (start sheet right))
     (explored-same sheet (startsOf sheet left right) l h nl nh)
 
--- What the lower and the higher give of one input: one report, one refusal, or the lower gives 21.
-pub data Beside (l h : Limits) (bytes : List ℕ) (left right work answer : ℕ) : Type 0 where
-  report-of-both : {r : Report} → Reports l bytes left right work answer r → Reports h bytes left right work answer r → Beside l h bytes left right work answer
-  refusal-of-both : {number place : ℕ} → Refuses l bytes left right work answer number place → Refuses h bytes left right work answer number place
-      → Beside l h bytes left right work answer
-  lower-large : (sheet : Sheet) → ChoiceIs bytes left right sheet → workLength ≤ work → PassesLimit sheet l (startsOf sheet left right)
-      → Beside l h bytes left right work answer
+-- ---- any call that works out a set and writes an answer, of which `made` is what it makes of a sheet within limits
+-- What the lower and the higher give of one input: one answer, one refusal, or the lower gives 21.
+pub data BesideBy {A : Type 0} (Is : Sheet → Type 0) (Not : ℕ → ℕ → Type 0) (seeds : Sheet → List Configuration) (made : Limits → Sheet → A) (size : A → ℕ)
+    (l h : Limits) (work answer : ℕ) : Type 0 where
+  answer-of-both : {a : A} → GivesBy Is l seeds (made l) size work answer a → GivesBy Is h seeds (made h) size work answer a
+      → BesideBy Is Not seeds made size l h work answer
+  refusal-of-both : {number place : ℕ} → RefusesBy Is Not l seeds (λ sheet. size (made l sheet)) work answer number place
+      → RefusesBy Is Not h seeds (λ sheet. size (made h sheet)) work answer number place → BesideBy Is Not seeds made size l h work answer
+  lower-large : (sheet : Sheet) → Is sheet → workLength ≤ work → PassesLimit sheet l (seeds sheet) → BesideBy Is Not seeds made size l h work answer
 
-module _ (l h : Limits) (bytes : List ℕ) (left right : ℕ) where
-  -- Both report, with whatever slices: it is one report.
-  pub reports-same : {work answer work2 answer2 : ℕ} {r s : Report} → Reports l bytes left right work answer r
-      → Reports h bytes left right work2 answer2 s → r ≡ s
-  reports-same x y =
-      let one : x .sheet ≡ y .sheet = one-sheet bytes (x .read .written) (y .read .written) in
+-- `one` says that it goes by one sheet, and `same` that what it makes goes by the set alone
+module _ {A : Type 0} (Is : Sheet → Type 0) (Not : ℕ → ℕ → Type 0) (seeds : Sheet → List Configuration) (made : Limits → Sheet → A) (size : A → ℕ)
+    (one : (x y : Sheet) → Is x → Is y → x ≡ y)
+    (same : (l h : Limits) (sheet : Sheet) → (PassesLimit sheet l (seeds sheet) → ⊥) → (PassesLimit sheet h (seeds sheet) → ⊥) → made l sheet ≡ made h sheet)
+    (l h : Limits) where
+  abbrev Gives : Limits → ℕ → ℕ → A → Type 0
+  Gives k = GivesBy Is k seeds (made k) size
+
+  abbrev RefusesWith : Limits → ℕ → ℕ → ℕ → ℕ → Type 0
+  RefusesWith k = RefusesBy Is Not k seeds (λ sheet. size (made k sheet))
+
+  -- Both give an answer, with whatever slices: it is one answer.
+  pub gives-same : {work answer work2 answer2 : ℕ} {a b : A} → Gives l work answer a → Gives h work2 answer2 b → a ≡ b
+  gives-same x y =
+      let e : x .sheet ≡ y .sheet = one (x .sheet) (y .sheet) (x .read) (y .read) in
       x .given
-      ∙ report-same l h (x .sheet) left right (x .no-limit)
-      (subst (λ (t : Sheet). PassesLimit t h (startsOf t left right) → ⊥) (sym one) (y .no-limit))
-      ∙ ap (λ (t : Sheet). reportFor h t left right) one ∙ sym (y .given)
+      ∙ same l h (x .sheet) (x .no-limit) (subst (λ (t : Sheet). PassesLimit t h (seeds t) → ⊥) (sym e) (y .no-limit))
+      ∙ ap (made h) e ∙ sym (y .given)
 
   module _ (le : NoGreater l h) where
-    -- The lower reports: so does the higher, where its slices are long enough.
-    pub reports-higher : {work answer work2 answer2 : ℕ} {r : Report} → Reports l bytes left right work answer r → workLength ≤ work2
-        → reportLength r ≤ answer2 → Reports h bytes left right work2 answer2 r
-    reports-higher x w a =
-        let none : PassesLimit (x .sheet) h (startsOf (x .sheet) left right) → ⊥ =
-        none-higher (x .sheet) (startsOf (x .sheet) left right) le (x .no-limit) in
+    -- The lower gives an answer: so does the higher, where its slices are long enough.
+    pub gives-higher : {work answer work2 answer2 : ℕ} {a : A} → Gives l work answer a → workLength ≤ work2 → size a ≤ answer2 → Gives h work2 answer2 a
+    gives-higher x w k =
+        let none : PassesLimit (x .sheet) h (seeds (x .sheet)) → ⊥ = none-higher (x .sheet) (seeds (x .sheet)) le (x .no-limit) in
         record {
           sheet = x .sheet;
           read = x .read;
           work-room = w;
           no-limit = none;
-          answer-room = a;
-          given = x .given ∙ report-same l h (x .sheet) left right (x .no-limit) none;
+          answer-room = k;
+          given = x .given ∙ same l h (x .sheet) (x .no-limit) none;
         }
 
     module _ {work answer : ℕ} where
       -- The lower refuses by anything but 21: so does the higher, at the same place.
-      pub refuses-higher : {number place : ℕ} → Refuses l bytes left right work answer number place → (number ≡ largeSet → ⊥)
-          → Refuses h bytes left right work answer number place
+      pub refuses-higher : {number place : ℕ} → RefusesWith l work answer number place → (number ≡ largeSet → ⊥) → RefusesWith h work answer number place
       refuses-higher (by-sheet e) n = by-sheet e
       refuses-higher (short-work sheet e w) n = short-work sheet e w
       refuses-higher (large-set sheet e w x) n = absurd (n refl)
       refuses-higher (short-answer sheet e w x k) n =
-          let none : PassesLimit sheet h (startsOf sheet left right) → ⊥ = none-higher sheet (startsOf sheet left right) le x in
-          let one = report-same l h sheet left right x none in
-          subst (λ (r : Report). Refuses h bytes left right work answer shortAnswer (reportLength r)) (sym one)
-          (short-answer sheet e w none (subst (λ (r : Report). answer < reportLength r) one k))
+          let none : PassesLimit sheet h (seeds sheet) → ⊥ = none-higher sheet (seeds sheet) le x in
+          let m = same l h sheet x none in
+          subst (λ (a : A). RefusesWith h work answer shortAnswer (size a)) (sym m)
+          (short-answer sheet e w none (subst (λ (a : A). answer < size a) m k))
 
       -- The higher refuses by anything but 22: so does the lower, at the same place.
-      pub refuses-lower : {number place : ℕ} → Refuses h bytes left right work answer number place → (number ≡ shortAnswer → ⊥)
-          → Refuses l bytes left right work answer number place
+      pub refuses-lower : {number place : ℕ} → RefusesWith h work answer number place → (number ≡ shortAnswer → ⊥) → RefusesWith l work answer number place
       refuses-lower (by-sheet e) n = by-sheet e
       refuses-lower (short-work sheet e w) n = short-work sheet e w
-      refuses-lower (large-set sheet e w x) n = large-set sheet e w (passes-lower sheet (startsOf sheet left right) le x)
+      refuses-lower (large-set sheet e w x) n = large-set sheet e w (passes-lower sheet (seeds sheet) le x)
       refuses-lower (short-answer sheet e w x k) n = absurd (n refl)
 
-      pub beside : Beside l h bytes left right work answer
-      beside = given (call-gives l bytes left right work answer)
+      pub beside : {o : Outcome A} → Decides (RefusesWith l work answer) (Gives l work answer) o → BesideBy Is Not seeds made size l h work answer
+      beside (gives-report x) = answer-of-both x (gives-higher x (x .work-room) (x .answer-room))
+      beside (gives-refusal x) = refused x
         where
-          refused : {number place : ℕ} → Refuses l bytes left right work answer number place → Beside l h bytes left right work answer
+          refused : {number place : ℕ} → RefusesWith l work answer number place → BesideBy Is Not seeds made size l h work answer
           refused (by-sheet e) = refusal-of-both (by-sheet e) (by-sheet e)
           refused (short-work sheet e w) = refusal-of-both (short-work sheet e w) (short-work sheet e w)
           refused (large-set sheet e w x) = lower-large sheet e w x
           refused (short-answer sheet e w x k) =
               refusal-of-both (short-answer sheet e w x k) (refuses-higher (short-answer sheet e w x k) (λ z. omega (arith, z)))
 
-          given : {o : Compares} → Gives l bytes left right work answer o → Beside l h bytes left right work answer
-          given (gives-report x) = report-of-both x (reports-higher x (x .work-room) (x .answer-room))
-          given (gives-refusal x) = refused x
+-- the two outcomes are one, or the lower is 21
+pub outcomes-beside : {A : Type 0} {Is : Sheet → Type 0} {Not : ℕ → ℕ → Type 0} {seeds : Sheet → List Configuration} {made : Limits → Sheet → A} {size : A → ℕ}
+    {l h : Limits} {work answer : ℕ} (o p : Outcome A)
+    → ((number place : ℕ) → (o ≡ refusal number place) ↔ RefusesBy Is Not l seeds (λ sheet. size (made l sheet)) work answer number place)
+    → ((a : A) → (o ≡ reported a) ↔ GivesBy Is l seeds (made l) size work answer a)
+    → ((number place : ℕ) → (p ≡ refusal number place) ↔ RefusesBy Is Not h seeds (λ sheet. size (made h sheet)) work answer number place)
+    → ((a : A) → (p ≡ reported a) ↔ GivesBy Is h seeds (made h) size work answer a)
+    → BesideBy Is Not seeds made size l h work answer → (o ≡ p) ⊎ (o ≡ refusal largeSet 0)
+outcomes-beside o p ro go rp gp (answer-of-both {a} x y) = inl (go a .1 x ∙ sym (gp a .1 y))
+outcomes-beside o p ro go rp gp (refusal-of-both {number} {place} x y) = inl (ro number place .1 x ∙ sym (rp number place .1 y))
+outcomes-beside o p ro go rp gp (lower-large sheet e w x) = inr (ro largeSet 0 .1 (large-set sheet e w x))
+
+-- two choices of one byte string are of one sheet
+pub one-choice : (bytes : List ℕ) (left right : ℕ) (x y : Sheet) → ChoiceIs bytes left right x → ChoiceIs bytes left right y → x ≡ y
+one-choice bytes left right x y c d = one-sheet bytes (c .written) (d .written)

@@ -1,2 +1,3 @@
 pub mod PromiseKept
 pub mod PromiseAlone
+pub mod PromiseLower

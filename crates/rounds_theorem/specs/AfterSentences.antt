@@ -5,8 +5,7 @@ use mathlib.Core.Bool.{Bool, true, false}
 use mathlib.Core.List.{List, [], _∷_, List·Memᴰ, List·Memᴰ·head, List·Memᴰ·tail}
 use Prim.Native.Nat.{ℕ, _+_, _-_, _≤_}
 use native.Mathlib.Omega.{arith}
-use lib.ListN.{length, take, drop}
-use lib.Seq.{take-append-seam}
+use lib.ListN.{length}
 use Rattle.list_laws.specs.ListPlaces.{getD-in}
 use Rattle.sheets.specs.Sheet.{Configuration, Sheet, start}
 use Rattle.sheets.specs.SheetBytes.{ChoiceIs}
@@ -20,12 +19,12 @@ use Rattle.comparison.specs.CallLimits.{Limits, NoGreater, limits, deskLimits}
 use Rattle.comparison.specs.Classes.{share, classTotal}
 use Rattle.comparison.specs.Report as report
 use Rattle.comparison.specs.SheetTransitions.{transitions}
-use Rattle.comparison.specs.Promise.{ResultRound, Faithful, PassesLimit, startsOf}
+use Rattle.comparison.specs.Promise.{ResultRound, Faithful, startsOf}
 use Rattle.comparison.specs.Call.{compareWith, compare, compareDesk}
 use Rattle.comparison_laws.specs.SheetMoves.{lawful}
 use Rattle.comparison_laws.specs.Theorem.{both-hold}
 use Rattle.comparison_laws.specs.FaithfulAlone.{members-one, as-many, finer-places, classes-one}
-use Rattle.comparison_laws.specs.LimitLaws.{own-limits, desk-no-greater, explored-same}
+use Rattle.comparison_laws.specs.LimitLaws.{own-limits, desk-no-greater}
 use Rattle.answers.specs.ReadBack.{readBack}
 use Rattle.answers.specs.declared.Reported.{Reported}
 use Rattle.answers.specs.declared.Answer.the-variants.{Report}
@@ -35,9 +34,9 @@ use Rattle.call_promise.specs.CallPromise.{reportRead, CallPromise}
 use Rattle.call_theorem.specs.CallPromiseLaws.{call-promise}
 use Rattle.kept_classes.specs.ClassTotals.{total-few, total-finer}
 use Rattle.after_rounds.specs.AfterRounds as spec
-use Rattle.after_rounds.specs.AfterRounds.{AfterRounds, SAME, DIFF, afterOn, afterBytes, compareRoundsWith, compareRounds, compareRoundsDesk}
-use Rattle.after_rounds.specs.AfterRoundsRead.{verdictReturned, reachedOf, verdictRead, afterRead}
-use Rattle.after_rounds.specs.AfterRoundsPromise.{NonePart, FaithfulAfter, afterFor, ReachedPromise, RoundsPromise, Unaltered, OneAnswer, reportVerdict, BesideReport}
+use Rattle.after_rounds.specs.AfterRounds.{AfterRounds, SAME, DIFF, compareRoundsWith, compareRounds, compareRoundsDesk}
+use Rattle.after_rounds.specs.AfterRoundsRead.{verdictReturned, verdictRead, afterRead}
+use Rattle.after_rounds.specs.AfterRoundsPromise.{NonePart, FaithfulAfter, ReachedPromise, RoundsPromise, Unaltered, reportVerdict, BesideReport}
 use Rattle.after_rounds.specs.declared.Verdict.{Verdict}
 use Rattle.after_rounds.specs.declared.Verdict.the-variants.{Same, Diff}
 use Rattle.after_rounds.specs.declared.Reached.{Reached}
@@ -68,34 +67,6 @@ module _ {l h : Limits} {bytes : List ℕ} {left right k n : ℕ} {v before w af
       record {
         same = λ e. let t = s .same .0 (ap verdictRead e) in returned-verdict o (g .2 .same .1 (t .0, later (t .1)));
         diff = λ e. returned-verdict o (g .2 .diff .1 (told-later le (s .diff .0 (ap verdictRead e))));
-      }
-
--- ---- the same number of rounds, within two limits
--- the bytes in front of the answer slice are the answer's
-front-read : {l : Limits} {bytes : List ℕ} {left right k : ℕ} {v before w after : List ℕ} {x : Reached}
-    → ReachedPromise l bytes left right k v before w after x → take (x .length) after ≡ afterBytes (afterRead x after)
-front-read {before = before} {after = after} {x = x} m =
-    let bs : List ℕ = afterBytes (afterRead x after) in
-    ap (λ (y : Reached). take (y .length) after) (m .returned) ∙ ap (take (length bs)) (m .written) ∙ take-append-seam bs (drop (x .length) before)
-
-module _ {l h : Limits} {bytes : List ℕ} {left right k : ℕ} {v before w after : List ℕ} {x : Reached} {v2 before2 w2 after2 : List ℕ} {y : Reached} where
-  -- where both answer, they return and write the same
-  pub one-answer : RoundsPromise l bytes left right k v before w after (After x) → RoundsPromise h bytes left right k v2 before2 w2 after2 (After y)
-      → OneAnswer x after y after2
-  one-answer a b =
-      let m = a .made x refl in
-      let n = b .made y refl in
-      let g = m .gives in
-      let i = n .gives in
-      let one : g .sheet ≡ i .sheet = one-sheet bytes (g .read .written) (i .read .written) in
-      let set = explored-same (i .sheet) (startsOf (i .sheet) left right) l h
-      (subst (λ (t : Sheet). PassesLimit t l (startsOf t left right) → ⊥) one (g .no-limit)) (i .no-limit) in
-      let same : afterRead x after ≡ afterRead y after2 =
-      g .given ∙ ap (λ (t : Sheet). afterFor l t left right k) one
-      ∙ ap (λ (s : List Configuration). afterOn (i .sheet) s k (start (i .sheet) left) (start (i .sheet) right)) set ∙ sym (i .given) in
-      record {
-        returns = m .returned ∙ ap reachedOf same ∙ sym (n .returned);
-        written = front-read m ∙ ap afterBytes same ∙ sym (front-read n);
       }
 
 -- ---- a faithful answer and a faithful report on the same starts
@@ -213,13 +184,6 @@ module _ (l h : Limits) (small : NoGreater l limits) (below : NoGreater h limits
       unaltered le (rounds-promise l bytes left right k small v before w after (After x) a)
       (rounds-promise h bytes left right n below v2 before2 w2 after2 (After y) b)
 
-  -- where both answer after the same number of rounds, they return and write the same
-  pub calls-one-answer : {y : Reached} → ComparedRounds (compareRoundsWith h bytes left right k (length v2) (length before2)) v2 before2 w2 after2 (After y)
-      → OneAnswer x after y after2
-  calls-one-answer {y} b =
-      one-answer (rounds-promise l bytes left right k small v before w after (After x) a)
-      (rounds-promise h bytes left right k below v2 before2 w2 after2 (After y) b)
-
   -- the answer beside the comparing call's report
   pub calls-beside-report : {y : Reported} → Compared (compareWith h bytes left right (length v2) (length before2)) v2 before2 w2 after2 (Report y)
       → (sheet : Sheet) → ChoiceIs bytes left right sheet → BesideReport sheet left right k x after y after2
@@ -252,8 +216,3 @@ module _ (bytes : List ℕ) (left right k : ℕ) {v before w after : List ℕ} {
   pub desk-beside-report : {y : Reported} → Compared (compareDesk bytes left right (length v2) (length before2)) v2 before2 w2 after2 (Report y)
       → (sheet : Sheet) → ChoiceIs bytes left right sheet → BesideReport sheet left right k x after y after2
   desk-beside-report = calls-beside-report deskLimits deskLimits desk-no-greater desk-no-greater bytes left right k a
-
-  -- where document 01's call answers too, it returns and writes the same
-  pub desk-one-answer : {y : Reached} → ComparedRounds (compareRounds bytes left right k (length v2) (length before2)) v2 before2 w2 after2 (After y)
-      → OneAnswer x after y after2
-  desk-one-answer = calls-one-answer deskLimits limits desk-no-greater (own-limits limits) bytes left right k a
