@@ -5,7 +5,7 @@ use mathlib.Core.Logic.{_↔_}
 use mathlib.Core.Bool.{Bool, true, false}
 use mathlib.Core.List.{List, [], _∷_, _++_, List·Memᴰ}
 use Prim.Native.Nat.{ℕ, _≤_, _<_}
-use lib.ListN.{length, take, drop}
+use lib.ListN.{length, drop}
 use Rattle.sheets.specs.Sheet.{Configuration, Sheet, start}
 use Rattle.sheets.specs.SheetBytes.{ChoiceIs, ChoiceRefused}
 use Rattle.refinement.specs.Refinement.{Member, TellsApart}
@@ -17,7 +17,7 @@ use Rattle.comparison.specs.Outcome.{cleared}
 use Rattle.comparison.specs.Promise.{RefusesBy, GivesBy, PromiseBy, ResultRound, SetListed, startsOf}
 use Rattle.answers.specs.declared.Reported.{Reported}
 use Rattle.call_promise.specs.CallPromise.{reportRead}
-use Rattle.call_promise.specs.TwoCalls.{LowerBy}
+use Rattle.call_promise.specs.TwoCalls.{OneWritten, LowerBy}
 use Rattle.after_rounds.specs.AfterRounds.{SAME, DIFF, AfterRounds, afterOn, afterBytes, afterLength}
 use Rattle.after_rounds.specs.AfterRoundsRead.{reachedOf, afterRead}
 use Rattle.after_rounds.specs.declared.Verdict.{Verdict}
@@ -92,11 +92,9 @@ pub record Unaltered (x y : Reached) : Type 0 where
   pub same : x .verdict ≡ Same → y .verdict ≡ Same
   pub diff : x .verdict ≡ Diff → y .verdict ≡ Diff
 
--- Two answers on the same starts after the same number of rounds, each within limits of its own: the same is returned, and the same bytes
--- stand in front of the answer slices.
-pub record OneAnswer (x : Reached) (after : List ℕ) (y : Reached) (after2 : List ℕ) : Type 0 where
-  pub returns : x ≡ y
-  pub written : take (x .length) after ≡ take (y .length) after2
+-- Two answers on the same starts after the same number of rounds, each within limits of its own and in slices of its own.
+abbrev pub OneAnswer : Reached → List ℕ → Reached → List ℕ → Type 0
+OneAnswer = OneWritten (λ x. x .length)
 
 -- Card 3's sentence for this call: one input and the same slices, the first call within limits l, which are nowhere above those of the
 -- second.

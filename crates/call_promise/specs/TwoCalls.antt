@@ -20,11 +20,15 @@ pub record OneCall {R : Type 0} (w after : List ℕ) (answer : R) (w2 after2 : L
   pub bytes : after ≡ after2
   pub works : w ≡ w2
 
--- Both reported, x and y: the same was returned, and the same bytes were written, in front of answer slices that may differ in length
--- and in what stood there before.
-pub record OneReport (x : Reported) (after : List ℕ) (y : Reported) (after2 : List ℕ) : Type 0 where
+-- Neither was refused, and x and y were returned, of which `size` is the number of bytes: the same was returned, and the same bytes were
+-- written, in front of answer slices that may differ in length and in what stood there before.
+pub record OneWritten {X : Type 0} (size : X → ℕ) (x : X) (after : List ℕ) (y : X) (after2 : List ℕ) : Type 0 where
   pub returns : x ≡ y
-  pub written : take (x .length) after ≡ take (y .length) after2
+  pub written : take (size x) after ≡ take (size y) after2
+
+-- both reported
+abbrev pub OneReport : Reported → List ℕ → Reported → List ℕ → Type 0
+OneReport = OneWritten (λ x. x .length)
 
 -- the set of the two starts passes one of these limits
 pub record LargeBy (l : Limits) (bytes : List ℕ) (left right : ℕ) : Type 0 where

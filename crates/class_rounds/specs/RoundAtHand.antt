@@ -2,7 +2,7 @@
 use mathlib.Core.Path.{_≡_, refl, sym, ap, _∙_}
 use mathlib.Core.Logic.{_↔_}
 use mathlib.Core.List.{List}
-use Prim.Native.Nat.{ℕ, suc, _<_}
+use Prim.Native.Nat.{ℕ, suc, _+_, _/_, _%_, _<_}
 use native.Mathlib.Omega.{arith}
 use lib.ListN.{length, getD}
 use Rattle.list_laws.specs.Tabulate.{tabulate-at}
@@ -21,6 +21,7 @@ use Rattle.dominators.specs.KeptMoves.{noMove}
 use Rattle.round_lines.specs.SetLinesFound.{MemberLined}
 use Rattle.class_splits.specs.ClassedPlaces.{Classed, classed-count}
 use Rattle.class_splits.specs.LineTests.{linesHeld}
+use Rattle.work_layout.specs.WorkLayout.{birthsAt}
 use Rattle.work_layout.specs.ClassLayout.{classIn, classesIn, bornIn, fromIn}
 
 -- what stands for no member
@@ -34,6 +35,14 @@ TogetherHeld sheet set = TogetherAt sheet set nobody
 -- the classes in the slice are those of round r
 abbrev pub PresentHeld : Sheet → List Configuration → List ℕ → ℕ → ℕ → Type 0
 PresentHeld sheet set w count r = Present (λ (i : ℕ). i < length set) (TogetherHeld sheet set) (fromIn w) (bornIn w) count r (classIn w)
+
+-- they stay where classes and births do
+pub present-held-same : (sheet : Sheet) (set : List Configuration) (v w : List ℕ) (count r : ℕ) → PresentHeld sheet set v count r
+    → ((c : ℕ) → c < count → getD w (birthsAt + c) 0 ≡ getD v (birthsAt + c) 0) → ((i : ℕ) → i < length set → classIn w i ≡ classIn v i)
+    → PresentHeld sheet set w count r
+present-held-same sheet set v w count r P births classes =
+    present-alike (λ (i : ℕ). i < length set) (TogetherHeld sheet set) (fromIn v) (bornIn v) (fromIn w) (bornIn w) count r (classIn v) (classIn w) P
+    (λ c l. ap (λ (x : ℕ). x / 65536) (births c l)) (λ c l. ap (λ (x : ℕ). x % 65536) (births c l)) classes
 
 -- A closed set, in its order, stands in the slice.
 pub record SetReady (sheet : Sheet) (set : List Configuration) (w : List ℕ) (n m : ℕ) : Type 0 where

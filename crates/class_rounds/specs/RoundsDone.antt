@@ -24,12 +24,12 @@ use Rattle.place_sets.specs.PlaceSets.{InSet}
 use Rattle.work_layout.specs.SetLayout.{memberAt, firstMove, moveTotal, SetHeld}
 use Rattle.refinement.specs.Refinement.{Round}
 use Rattle.comparison.specs.Classes.{placeOf, classOf}
-use Rattle.comparison.specs.Rounds.{rounds, resultOf}
+use Rattle.comparison.specs.Rounds.{rounds}
 use Rattle.comparison.specs.SheetTransitions.{transitions}
 use Rattle.comparison_laws.specs.ClassLaws.{placeOf-lt, placeOf-at}
 use Rattle.comparison_laws.specs.RoundLaws.{Sharing}
 use Rattle.kept_classes.specs.MemberLines.{linesOf}
-use Rattle.kept_classes.specs.RoundLines.{round-earlier}
+use Rattle.refinement_laws.specs.EarlierRounds.{round-earlier}
 use Rattle.kept_classes.specs.ClassesPresent.{present-founders, present-alike, present-now}
 use Rattle.kept_classes.specs.SetClasses.{present-early, present-result}
 use Rattle.kept_classes.specs.ClassPlaces.{PresentAt, places-present}
@@ -43,7 +43,7 @@ use Rattle.round_lines.specs.SetLinesFound.{MemberLined, LinesKept, InList, Set
 use Rattle.dominators.specs.ForgottenMoves.{Forgotten, forgotten-held}
 use Rattle.class_splits.specs.ClassedPlaces.{chosenIn, Classed, classed-count, classed-same}
 use Rattle.round_steps.specs.FirstRound.{storeIn, StoresRise, Founding}
-use Rattle.class_rounds.specs.RoundAtHand.{nobody, TogetherHeld, PresentHeld, SetReady, present-listed, present-round, Stage}
+use Rattle.class_rounds.specs.RoundAtHand.{nobody, TogetherHeld, PresentHeld, present-held-same, SetReady, present-listed, present-round, Stage}
 use Rattle.class_splits.specs.LineTests.{linesHeld}
 use Rattle.class_splits.specs.ChosenPlaces.{chosen-class, chosen-classed}
 use Rattle.round_steps.specs.ChosenMembers.{Rechosen}
@@ -329,9 +329,7 @@ module _ (v : List ℕ) (n m : ℕ) (w ws : List ℕ) (width : ℕ) (list : List
     stage sheet set R =
         let z = small sheet set R in record {
           ready = ready-same (here sheet set R) (lined-set (L .only));
-          present = present-alike (λ (i : ℕ). i < length set) (TogetherHeld sheet set) (fromIn w) (bornIn w) (fromIn u) (bornIn u) count r
-              (classIn w) (classIn u) (now sheet set R .present)
-              (λ c l. ap (λ (x : ℕ). x / 65536) (birth-same (z .1) c l)) (λ c l. ap (λ (x : ℕ). x % 65536) (birth-same (z .1) c l))
+          present = present-held-same sheet set w u count r (now sheet set R .present) (birth-same (z .1))
               (λ i l. L .only .at-classes (classesAt + i) (omega arith) (omega (arith, z .0, held-count sheet set v n m (R .held))));
           classed = classed-same (z .0) (G .classed) (L .only .at-classes);
           lined = λ i l.
@@ -406,10 +404,7 @@ module _ (v : List ℕ) (n m : ℕ) (w ws : List ℕ) (width : ℕ) (list : List
 
           present-there : PresentHeld sheet set y next (r + 1)
           present-there =
-              present-alike (λ (i : ℕ). i < length set) (TogetherHeld sheet set) (fromIn x) (bornIn x) (fromIn y) (bornIn y) next (r + 1)
-              (classIn x) (classIn y) (next-present S A)
-              (λ c l. ap (λ (z : ℕ). z / 65536) (birth-there c l)) (λ c l. ap (λ (z : ℕ). z % 65536) (birth-there c l))
-              (λ i l. class-there i (omega (arith, size)))
+              present-held-same sheet set x y next (r + 1) (next-present S A) birth-there (λ i l. class-there i (omega (arith, size)))
 
           sharing-there : Sharing sheet (R .wf) set (R .closed) (classesIn y n) (r + 1)
           unfolding there ready-same
@@ -580,9 +575,7 @@ module _ (v : List ℕ) (n m : ℕ) (w ws : List ℕ) (width : ℕ) (list : List
 
           present-last : PresentHeld sheet set x count r
           present-last =
-              present-alike (λ (i : ℕ). i < length set) (TogetherHeld sheet set) (fromIn u) (bornIn u) (fromIn x) (bornIn x) count r
-              (classIn u) (classIn x) (S .present) (λ c l. ap (λ (y : ℕ). y / 65536) (Z .old-births c l))
-              (λ c l. ap (λ (y : ℕ). y % 65536) (Z .old-births c l)) (λ i l. class-same i (omega (arith, size)))
+              present-held-same sheet set u x count r (S .present) (Z .old-births) (λ i l. class-same i (omega (arith, size)))
 
           ready-last : SetReady sheet set x n m
           ready-last = ready-same R same-here
@@ -640,9 +633,7 @@ module _ (v : List ℕ) (n m : ℕ) (w ws : List ℕ) (width : ℕ) (list : List
               record {
                 ready = back-ready;
                 present = present-listed sheet set y n m count r (back-ready .held)
-                    (present-alike (λ (i : ℕ). i < length set) (TogetherHeld sheet set) (fromIn u) (bornIn u) (fromIn y) (bornIn y) count r
-                    (classIn u) (classIn y) (S .present) (λ c l. ap (λ (z : ℕ). z / 65536) (back-birth c l))
-                    (λ c l. ap (λ (z : ℕ). z % 65536) (back-birth c l)) (λ i l. back-class i (omega (arith, size))));
+                    (present-held-same sheet set u y count r (S .present) back-birth (λ i l. back-class i (omega (arith, size))));
                 classed = C;
               }
 
@@ -651,14 +642,12 @@ module _ (v : List ℕ) (n m : ℕ) (w ws : List ℕ) (width : ℕ) (list : List
         result-later more =
             let listed : PresentAt sheet set nobody (fromIn x) (bornIn x) next (r + 1) (classesIn x n) =
             present-listed sheet set x n m next (r + 1) (ready-same R same-here .held) (next-present S A) in
-            let early = present-early sheet set (R .wf) (R .closed) (fromIn x) (bornIn x) next (r + 1) (classOf set (classesIn x n))
-            (places-present sheet set nobody (R .wf) (fromIn x) (bornIn x) next (r + 1) (classesIn x n) listed)
-            (classesIn x n) (λ p k. refl) (omega (arith, size, R .some)) (births-here more) in
-            go early (tested (ltb (resultOf (rounds sheet set)) (r + 1)))
-          where
-            go : (resultOf (rounds sheet set) < r + 1 → ⊥) → Tested (ltb (resultOf (rounds sheet set)) (r + 1)) → suc r < length (rounds sheet set)
-            go early (passes e) = absurd (early (ltb-true (resultOf (rounds sheet set)) (r + 1) e))
-            go early (fails e) = omega (arith, ltb-false (resultOf (rounds sheet set)) (r + 1) e)
+            omega (
+              arith,
+              present-early sheet set (R .wf) (R .closed) (fromIn x) (bornIn x) next (r + 1) (classOf set (classesIn x n))
+                  (places-present sheet set nobody (R .wf) (fromIn x) (bornIn x) next (r + 1) (classesIn x n) listed)
+                  (classesIn x n) (λ p k. refl) (omega (arith, size, R .some)) (births-here more),
+            )
 
       pub refining-next : (next ≡ count → ⊥) → (y next-list : List ℕ) (total : ℕ) → NextListed x us width n count list k y next-list total
           → Refining v n m y us width next-list total (r + 1) next

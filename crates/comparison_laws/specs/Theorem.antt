@@ -4,12 +4,11 @@ use mathlib.Core.Path.{_≡_, refl, sym, subst}
 use mathlib.Core.Logic.{_↔_, ⊎-elim}
 use mathlib.Core.Bool.{Bool, true, false, cond}
 use mathlib.Core.List.{List, [], _∷_, List·Memᴰ, List·Memᴰ·head, List·Memᴰ·tail, List·Memᴰ·not-nil, List·Memᴰ·cases-cons, List·Memᴰ·eq-of-singleton}
-use Prim.Native.Nat.{ℕ, zero, suc, _+_, _-_, _≤_, _<_}
+use Prim.Native.Nat.{ℕ, suc, _≤_, _<_}
 use native.Mathlib.Omega.{arith}
 use lib.ListN.{length, getD}
-use lib.Dec.{eqb, ltb}
-use borrow.Author.Tests.{eqb-true, eqb-false, ltb-true, ltb-false}
-use Rattle.list_laws.specs.TestLaws.{Tested, tested, passes, fails}
+use lib.Dec.{eqb}
+use borrow.Author.Tests.{eqb-true, eqb-false}
 use Rattle.sheets.specs.Sheet.{Configuration, Sheet}
 use Rattle.sheets.specs.WellFormed.{OfSheet, WellFormed}
 use Rattle.comparison.specs.CallLimits.{Limits}
@@ -21,7 +20,7 @@ use Rattle.comparison.specs.Report.{Verdict, SAME, DIFF, verdictOf, roundOf, re
 use Rattle.refinement.specs.Refinement.{Transitions, Member, Round, Level, TellsApart, Bisimilar, FirstApart}
 use Rattle.refinement_laws.specs.RoundLevels.{round-level, first-apart, always-together}
 use Rattle.refinement_laws.specs.LevelLaws.{bisimulation-level}
-use Rattle.refinement_laws.specs.StableRounds.{Stable, stable-from, stable-bisimilar}
+use Rattle.refinement_laws.specs.StableRounds.{Stable, stable-always, stable-bisimilar}
 use Rattle.comparison.specs.SheetTransitions.{transitions}
 use Rattle.comparison_laws.specs.SheetMoves.{lawful}
 use Rattle.comparison_laws.specs.ClassLaws.{placeOf-lt, placeOf-at}
@@ -31,14 +30,6 @@ use Rattle.comparison_laws.specs.ResultLaws.{classes-length, Result, res
 use Rattle.comparison_laws.specs.TrailLaws.{apart-le, trail-none}
 use Rattle.comparison_laws.specs.TrailWalk.{together-below, apart-first, trail-walkable}
 use Rattle.comparison.specs.Promise.{ResultRound, Walkable, SetListed, Classified, Faithful}
-
--- round m holds what round n holds, m up to n
-pub round-down : (sheet : Sheet) (m k : ℕ) (p q : Configuration) → Round (transitions sheet) (k + m) p q → Round (transitions sheet) m p q
-round-down sheet m zero p q h = let e : 0 + m ≡ m = omega arith in subst (λ (i : ℕ). Round (transitions sheet) i p q) e h
-round-down sheet m (suc k) p q h =
-    let e : suc k + m ≡ suc (k + m) = omega arith in
-    let g : Round (transitions sheet) (suc (k + m)) p q = subst (λ (i : ℕ). Round (transitions sheet) i p q) e h in
-    round-down sheet m k p q (g .0)
 
 module _ (sheet : Sheet) (wf : WellFormed sheet) (l : Limits) (seeds : List Configuration)
     (of : (x : Configuration) → List·Memᴰ x seeds → OfSheet sheet x)
@@ -118,18 +109,9 @@ module _ (sheet : Sheet) (wf : WellFormed sheet) (l : Limits) (seeds : List Conf
 
       -- where no round separates them, they are together in every round
       together-always : apart ≡ length (rounds sheet set) → (n : ℕ) → Round T n p q
-      together-always e n =
-          let atN : Round T N p q = together-below sheet wf set closed-set some p q mp mq N (omega (arith, rounds-length)) in
-          go atN (tested (ltb n N))
-        where
-          go : Round T N p q → Tested (ltb n N) → Round T n p q
-          go h (passes k) =
-              let i : (N - n) + n ≡ N = omega (arith, ltb-true n N k) in
-              round-down sheet n (N - n) p q (subst (λ (j : ℕ). Round T j p q) (sym i) h)
-          go h (fails k) =
-              let i : (n - N) + N ≡ n = omega (arith, ltb-false n N k) in
-              subst (λ (j : ℕ). Round T j p q) i
-              (stable-from T (lawful sheet wf) seeds N (n - N) result-stable p q (whole p .0 mp) (whole q .0 mq) h)
+      together-always e =
+          stable-always T (lawful sheet wf) seeds N result-stable p q (whole p .0 mp) (whole q .0 mq)
+          (together-below sheet wf set closed-set some p q mp mq N (omega (arith, rounds-length)))
 
       -- the two sides of a verdict
       pub data Told : Verdict → ℕ → Type 0 where

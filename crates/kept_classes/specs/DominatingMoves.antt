@@ -25,7 +25,7 @@ use Rattle.comparison.specs.Rounds.{redundant}
 use Rattle.comparison.specs.SheetTransitions.{transitions}
 use Rattle.comparison_laws.specs.SetLaws.{moves-ascend}
 use Rattle.comparison_laws.specs.RoundLaws.{ClosedList, Sharing}
-use Rattle.kept_classes.specs.RoundLines.{round-earlier}
+use Rattle.refinement_laws.specs.EarlierRounds.{round-earlier}
 
 module _ (sheet : Sheet) (set : List Configuration) where
   -- k makes m redundant in these classes

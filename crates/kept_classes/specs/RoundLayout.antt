@@ -35,7 +35,7 @@ use Rattle.comparison_laws.specs.SheetMoves.{conclusions-fit}
 use Rattle.comparison_laws.specs.ClassLaws.{placeOf-lt, placeOf-at}
 use Rattle.comparison_laws.specs.RoundLaws.{ClosedList, Sharing}
 use Rattle.comparison_laws.specs.TrailLaws.{share-sym}
-use Rattle.kept_classes.specs.RoundLines.{round-earlier}
+use Rattle.refinement_laws.specs.EarlierRounds.{round-earlier}
 use Rattle.kept_classes.specs.AddedStores.{added-store, added-is}
 use Rattle.kept_classes.specs.DominatingMoves.{dominates}
 use Rattle.work_layout.specs.WorkLayout.{tableIds, spansAt, movesAt, membersAt, lineTotalsAt, moveRoom}

@@ -1,14 +1,10 @@
 -- The next round by lines, and what a round has settled for good: over any labelled moves that obey the laws.
-use mathlib.Core.Path.{_≡_, sym, subst}
 use mathlib.Core.Logic.{_↔_}
-use Prim.Native.Nat.{ℕ, zero, suc, _≤_}
-use native.Mathlib.Omega.{arith}
-use lib.Dec.{eqb}
-use borrow.Author.Tests.{eqb-true, eqb-false}
-use Rattle.list_laws.specs.TestLaws.{Tested, tested, passes, fails}
+use Prim.Native.Nat.{ℕ, suc, _≤_}
 use Rattle.refinement.specs.Refinement.{Transitions, StrictlyBelow, Redundant, Answered, Round}
 use Rattle.refinement_laws.specs.LawfulMoves.{Lawful}
 use Rattle.refinement_laws.specs.RoundLevels.{class-lines-same, round-sym}
+use Rattle.refinement_laws.specs.EarlierRounds.{round-earlier}
 
 module _ (T : Transitions) where
   open Transitions T using (Label, State, add, Move)
@@ -29,18 +25,9 @@ module _ (T : Transitions) where
     (λ h. (h .0, lines-answered (Round T n) p q (h .1), lines-answered (Round T n) q p (h .2))),
   )
 
-  -- ---- rounds only split
-  pub round-earlier : (m n : ℕ) (p q : State) → n ≤ m → Round T m p q → Round T n p q
-  round-earlier zero n p q l h = let e : 0 ≡ n = omega arith in subst (λ (i : ℕ). Round T i p q) e h
-  round-earlier (suc m) n p q l h = go (round-earlier m n p q) (tested (eqb n (suc m)))
-    where
-      go : (n ≤ m → Round T m p q → Round T n p q) → Tested (eqb n (suc m)) → Round T n p q
-      go ih (passes y) = subst (λ (i : ℕ). Round T i p q) (sym (eqb-true n (suc m) y)) h
-      go ih (fails y) = ih (omega (arith, eqb-false n (suc m) y)) (h .0)
-
   -- two that are apart stay apart
   pub still-apart : (n m : ℕ) (p q : State) → n ≤ m → (Round T n p q → ⊥) → Round T m p q → ⊥
-  still-apart n m p q l f h = f (round-earlier m n p q l h)
+  still-apart n m p q l f h = f (round-earlier T m n p q l h)
 
   -- (a, u) makes the move (b, t) redundant in round n
   abbrev pub Dominates : ℕ → Label → State → Label → State → Type 0
@@ -48,9 +35,9 @@ module _ (T : Transitions) where
 
   -- one that does not never will
   pub never-dominates : (n m : ℕ) (a b : Label) (u t : State) → n ≤ m → (Dominates n a u b t → ⊥) → Dominates m a u b t → ⊥
-  never-dominates n m a b u t l f h = f (h .0, round-earlier m n t (add b u) l (h .1))
+  never-dominates n m a b u t l f h = f (h .0, round-earlier T m n t (add b u) l (h .1))
 
   -- a move that is irredundant stays so
   pub still-irredundant : (n m : ℕ) (p : State) (b : Label) (t : State) → n ≤ m → (Redundant T (Round T n) p b t → ⊥)
       → Redundant T (Round T m) p b t → ⊥
-  still-irredundant n m p b t l f h = f (h .0, h .1, h .2, h .3, round-earlier m n t (add b (h .1)) l (h .4))
+  still-irredundant n m p b t l f h = f (h .0, h .1, h .2, h .3, round-earlier T m n t (add b (h .1)) l (h .4))

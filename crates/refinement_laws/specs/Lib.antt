@@ -1,4 +1,5 @@
 pub mod LawfulMoves
 pub mod LevelLaws
 pub mod RoundLevels
+pub mod EarlierRounds
 pub mod StableRounds

@@ -3,12 +3,16 @@
 use mathlib.Core.Path.{_≡_, refl, sym, ap, _∙_, subst}
 use mathlib.Core.Logic.{_↔_}
 use mathlib.Core.List.{List, List·Memᴰ}
-use Prim.Native.Nat.{ℕ, zero, suc, _+_}
+use Prim.Native.Nat.{ℕ, zero, suc, _+_, _-_, _≤_}
 use native.Mathlib.Omega.{arith}
+use lib.Dec.{ltb}
+use borrow.Author.Tests.{ltb-true, ltb-false}
+use Rattle.list_laws.specs.TestLaws.{Tested, tested, passes, fails}
 use Rattle.refinement.specs.Refinement.{Transitions, StrictlyBelow, Member, seed, target, added, Redundant, Answered, Round, Bisimulation, Bisimilar}
 use Rattle.refinement_laws.specs.LawfulMoves.{Lawful}
 use Rattle.refinement_laws.specs.LevelLaws.{level-barbs, level-add, bisimulation-level}
 use Rattle.refinement_laws.specs.RoundLevels.{added-sound, redundant-dec, round-dec, dominated, rounds-levels, round-level, round-sym}
+use Rattle.refinement_laws.specs.EarlierRounds.{round-earlier}
 
 module _ (T : Transitions) (seeds : List (T .State)) where
   open Transitions T using (Label, State, add, Move)
@@ -62,6 +66,24 @@ module _ (T : Transitions) (L : Lawful T) (seeds : List (T .State)) where
   stable-from n (suc k) st p q mp mq h =
       let e : k + suc n ≡ suc k + n = omega arith in
       subst (λ (m : ℕ). Round T m p q) e (stable-from (suc n) k (stable-next n st) p q mp mq (st p q mp mq h))
+
+  -- and so is every later one
+  pub stable-later : (n k : ℕ) → n ≤ k → Stable n → Stable k
+  stable-later n k l st = let e : (k - n) + n ≡ k = omega (arith, l) in subst Stable e (later (k - n))
+    where
+      later : (d : ℕ) → Stable (d + n)
+      later zero = let e : n ≡ 0 + n = omega arith in subst Stable e st
+      later (suc d) = let e : suc (d + n) ≡ suc d + n = omega arith in subst Stable e (stable-next (d + n) (later d))
+
+  -- members that are together in it are together in every round
+  pub stable-always : (n : ℕ) → Stable n → (p q : State) → Member T seeds p → Member T seeds q → Round T n p q → (k : ℕ) → Round T k p q
+  stable-always n st p q mp mq h k = go (tested (ltb k n))
+    where
+      go : Tested (ltb k n) → Round T k p q
+      go (passes t) = round-earlier T n k p q (omega (arith, ltb-true k n t)) h
+      go (fails t) =
+          let e : (k - n) + n ≡ k = omega (arith, ltb-false k n t) in
+          subst (λ (i : ℕ). Round T i p q) e (stable-from n (k - n) st p q mp mq h)
 
   module _ (of : (p : State) → List·Memᴰ p seeds → Of p) (n : ℕ) (stable : Stable n) where
     -- two members of one class with a constraint added to both

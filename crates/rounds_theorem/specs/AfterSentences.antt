@@ -3,7 +3,7 @@
 use mathlib.Core.Path.{_≡_, refl, sym, ap, _∙_, subst}
 use mathlib.Core.Bool.{Bool, true, false}
 use mathlib.Core.List.{List, [], _∷_, List·Memᴰ, List·Memᴰ·head, List·Memᴰ·tail}
-use Prim.Native.Nat.{ℕ, _+_, _-_, _≤_}
+use Prim.Native.Nat.{ℕ, _≤_}
 use native.Mathlib.Omega.{arith}
 use lib.ListN.{length}
 use Rattle.list_laws.specs.ListPlaces.{getD-in}
@@ -14,7 +14,7 @@ use Rattle.sheet_reading.specs.SheetRead.{one-sheet}
 use Rattle.sheet_laws.specs.ReadingLaws.{written-admissible}
 use Rattle.refinement.specs.Refinement.{Transitions, Member, Round, Bisimilar, seed}
 use Rattle.refinement_laws.specs.LevelLaws.{bisimulation-level}
-use Rattle.refinement_laws.specs.StableRounds.{Stable, stable-bisimilar}
+use Rattle.refinement_laws.specs.StableRounds.{Stable, stable-later, stable-bisimilar}
 use Rattle.comparison.specs.CallLimits.{Limits, NoGreater, limits, deskLimits}
 use Rattle.comparison.specs.Classes.{share, classTotal}
 use Rattle.comparison.specs.Report as report
@@ -41,7 +41,7 @@ use Rattle.after_rounds.specs.declared.Verdict.{Verdict}
 use Rattle.after_rounds.specs.declared.Verdict.the-variants.{Same, Diff}
 use Rattle.after_rounds.specs.declared.Reached.{Reached}
 use Rattle.after_rounds.specs.declared.RoundsAnswer.the-variants.{After}
-use Rattle.rounds_theorem.specs.ToldLaws.{told-later, apart-told, untold-together, stable-later, none-part}
+use Rattle.rounds_theorem.specs.ToldLaws.{told-later, apart-told, untold-together, none-part}
 use Rattle.rounds_call.specs.ComparedRounds.{ComparedRounds}
 use Rattle.rounds_theorem.specs.AfterPromiseLaws.{rounds-promise}
 
@@ -108,9 +108,7 @@ module _ (sheet : Sheet) (wf : WellFormed sheet) (p q : Configuration) (op : OfS
   -- from the result's round on
   module _ (n : ℕ) (result : ResultRound sheet seeds n) (le : n ≤ k) where
     stable : Stable T (lawful sheet wf) seeds k
-    stable =
-        let e : (k - n) + n ≡ k = omega (arith, le) in
-        subst (Stable T (lawful sheet wf) seeds) e (stable-later sheet wf seeds n (k - n) (result .stable))
+    stable = stable-later T (lawful sheet wf) seeds n k le (result .stable)
 
     together-bisimilar : (x y : Configuration) → Member T seeds x → Member T seeds y → Round T k x y → Bisimilar T x y
     together-bisimilar x y mx my h =

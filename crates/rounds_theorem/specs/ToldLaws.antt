@@ -1,21 +1,17 @@
 -- What a watcher tells apart in at most k moves is what round k has apart, and no two members part after round k exactly when it splits
 -- none of them.
-use mathlib.Core.Path.{_≡_, subst}
 use mathlib.Core.Logic.{_↔_}
 use mathlib.Core.List.{List}
-use Prim.Native.Nat.{ℕ, zero, suc, _+_, _-_, _≤_, _<_}
+use Prim.Native.Nat.{ℕ, suc, _≤_}
 use native.Mathlib.Omega.{arith}
-use lib.Dec.{ltb}
-use borrow.Author.Tests.{ltb-true, ltb-false}
-use Rattle.list_laws.specs.TestLaws.{Tested, tested, passes, fails}
 use Rattle.sheets.specs.Sheet.{Configuration, Sheet}
 use Rattle.sheets.specs.WellFormed.{WellFormed}
 use Rattle.refinement.specs.Refinement.{Transitions, Member, Round}
 use Rattle.refinement_laws.specs.RoundLevels.{round-dec, round-level, always-together}
-use Rattle.refinement_laws.specs.StableRounds.{Stable, stable-next, stable-from}
+use Rattle.refinement_laws.specs.StableRounds.{Stable, stable-always}
 use Rattle.comparison.specs.SheetTransitions.{transitions}
 use Rattle.comparison_laws.specs.SheetMoves.{lawful}
-use Rattle.kept_classes.specs.RoundLines.{round-earlier}
+use Rattle.refinement_laws.specs.EarlierRounds.{round-earlier}
 use Rattle.after_rounds.specs.AfterRoundsPromise.{ToldBy, NeverTold, NonePart}
 
 -- what is told by so many moves is told by more
@@ -43,24 +39,10 @@ module _ (sheet : Sheet) (wf : WellFormed sheet) where
       go (no h) = absurd (n (apart-told k p q h))
 
   module _ (seeds : List Configuration) where
-    -- where a round splits no member, no later one does
-    pub stable-later : (n d : ℕ) → Stable T (lawful sheet wf) seeds n → Stable T (lawful sheet wf) seeds (d + n)
-    stable-later n zero st = let e : n ≡ 0 + n = omega arith in subst (Stable T (lawful sheet wf) seeds) e st
-    stable-later n (suc d) st =
-        let e : suc (d + n) ≡ suc d + n = omega arith in
-        subst (Stable T (lawful sheet wf) seeds) e (stable-next T (lawful sheet wf) seeds (d + n) (stable-later n d st))
-
-    -- and members that are together in it are never told apart
+    -- members that are together in a round that splits no member are never told apart
     pub stable-never : (k : ℕ) → Stable T (lawful sheet wf) seeds k → (x y : Configuration) → Member T seeds x → Member T seeds y → Round T k x y
         → NeverTold sheet x y
-    stable-never k st x y mx my h = always-together T (lawful sheet wf) x y .0 (λ n. at n (tested (ltb n k)))
-      where
-        at : (n : ℕ) → Tested (ltb n k) → Round T n x y
-        at n (passes t) = let l : n < k = ltb-true n k t in round-earlier T k n x y (omega arith) h
-        at n (fails t) =
-            let l : k ≤ n = ltb-false n k t in
-            let e : (n - k) + k ≡ n = omega arith in
-            subst (λ (i : ℕ). Round T i x y) e (stable-from T (lawful sheet wf) seeds k (n - k) st x y mx my h)
+    stable-never k st x y mx my h = always-together T (lawful sheet wf) x y .0 (stable-always T (lawful sheet wf) seeds k st x y mx my h)
 
     -- no two members part after round k exactly when it splits none of them
     pub none-part : (k : ℕ) → Stable T (lawful sheet wf) seeds k ↔ NonePart sheet seeds k

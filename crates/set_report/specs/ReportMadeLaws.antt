@@ -24,14 +24,13 @@ use Rattle.comparison.specs.Rounds.{classes, rounds, apartIn}
 use Rattle.comparison.specs.Trail.{Side, left, right, none, TrailStep, trail}
 use Rattle.comparison.specs.Report as spec
 use Rattle.comparison.specs.Report.{SAME, DIFF, sideByte, reportOn, reportBytes, reportLength}
-use Rattle.kept_classes.specs.ClassesPresent.{present-alike}
-use Rattle.kept_classes.specs.RoundLayout.{same-set-low, held-place, held-count}
+use Rattle.kept_classes.specs.RoundLayout.{same-set-low, held-place}
 use Rattle.dominators.specs.FoundMembers.{FoundAt, found-there, held-ordered}
 use Rattle.class_splits.specs.ClassedPlaces.{classed-count, classed-same}
-use Rattle.class_rounds.specs.RoundAtHand.{nobody, TogetherHeld}
-use Rattle.class_rounds.specs.RoundsDone.{RoundsHeld, Refined, LastRound, refined-outside, ready-same}
+use Rattle.class_rounds.specs.RoundAtHand.{nobody}
+use Rattle.class_rounds.specs.RoundsDone.{RoundsHeld, Refined, LastRound, refined-outside, rounds-held-same}
 use Rattle.separations.specs.ApartClasses.{rounds-apart}
-use Rattle.separations.specs.ReportClasses.{NumberReady, Renumbered, result-numbers}
+use Rattle.separations.specs.ReportClasses.{NumberReady, Renumbered, rounds-number-ready, result-numbers}
 use Rattle.report_records.specs.RecordLayout.{sideIn}
 use Rattle.report_bytes.specs.ReportLayout.{heldBytes}
 use Rattle.report_bytes.specs.ReportInSlice.{StepNumbers, stepIn, stepNumbers, ReportHeld, Agrees}
@@ -44,8 +43,8 @@ use Rattle.answers.specs.Returned.{isSame, returnedOf, returned}
 use Rattle.verdicts.specs.Verdicts.{verdictOn}
 use Rattle.two_starts.specs.TwoStarts.{StartsHeld, starts-ready}
 use Rattle.set_report.specs.ReportMade.{ReportMade}
-use Rattle.work_layout.specs.WorkLayout.{workEnd, memberRoom, classesAt, birthsAt, stepsAt, stepsEnd}
-use Rattle.work_layout.specs.ClassLayout.{classIn, classesIn, bornIn, fromIn}
+use Rattle.work_layout.specs.WorkLayout.{workEnd, memberRoom, stepsAt, stepsEnd}
+use Rattle.work_layout.specs.ClassLayout.{classesIn}
 
 -- the side of a step is a byte
 side-small : (s : Side) → sideByte s < 256
@@ -94,34 +93,14 @@ module _ {sheet : Sheet} {set : List Configuration} {w : List ℕ} {n m r count 
 
   -- ---- steps stored behind the classes and births leave the rounds as they are
   module _ {u : List ℕ} (S : SameOutside stepsAt stepsEnd w u) where
-    birth-same : (c : ℕ) → c < count → getD u (birthsAt + c) 0 ≡ getD w (birthsAt + c) 0
-    birth-same c l = S .at (birthsAt + c) (inr (omega (arith, classed-count (H .classed), H .ready .held .few .0)))
-
-    class-same : (i : ℕ) → i < n → classIn u i ≡ classIn w i
-    class-same i l = S .at (classesAt + i) (inr (omega (arith, H .ready .held .few .0)))
-
-    listed-same : (i : ℕ) → i < length set → getD (classesIn u n) i 0 ≡ getD (classesIn w n) i 0
-    listed-same i l =
-        let h : i < n = omega (arith, held-count sheet set w n m (H .ready .held)) in
-        tabulate-at (classIn u) n i 0 h ∙ class-same i h ∙ sym (tabulate-at (classIn w) n i 0 h)
-
     pub rounds-kept : RoundsHeld sheet set u n m r count
-    rounds-kept = record {
-      ready = ready-same (H .ready) (same-set-low (omega arith) S);
-      present = present-alike (λ (i : ℕ). i < length set) (TogetherHeld sheet set) (fromIn w) (bornIn w) (fromIn u) (bornIn u) count r
-          (λ i. getD (classesIn w n) i 0) (λ i. getD (classesIn u n) i 0) (H .present)
-          (λ c l. ap (λ (x : ℕ). x / 65536) (birth-same c l)) (λ c l. ap (λ (x : ℕ). x % 65536) (birth-same c l)) listed-same;
-      classed = classed-same (H .ready .held .few .0) (H .classed) (λ k h l. S .at k (inr (omega arith)));
-    }
+    rounds-kept =
+        rounds-held-same H (same-set-low (omega arith) S) (λ k h l. S .at k (inr (omega arith)))
+        (classed-same (H .ready .held .few .0) (H .classed) (λ k h l. S .at k (inr (omega arith))))
 
     -- classes can be numbered by first member
     pub rounds-numbered : NumberReady u n
-    rounds-numbered = record {
-      count = count;
-      classed = rounds-kept .classed;
-      few = H .ready .held .few .0;
-      long = omega (arith, S .long, H .ready .held .long);
-    }
+    rounds-numbered = rounds-number-ready rounds-kept
 
 -- ---- from the set to the report: w after the rounds, u with the trail from the places i and j, x with the report's classes
 module _ {v : List ℕ} {n m : ℕ} {w : List ℕ} {r count : ℕ} (R : Refined v n m w r count) {i j : ℕ} {u : List ℕ} {k : ℕ}

@@ -2,7 +2,7 @@
 use mathlib.Core.Path.{_≡_, refl, sym, ap, ap₂, _∙_, subst}
 use mathlib.Core.Bool.{Bool, true, false, not, _&&_}
 use mathlib.Core.List.{List, [], _∷_, List·Memᴰ}
-use Prim.Native.Nat.{ℕ, _+_, _-_, _/_, _%_, _≤_, _<_}
+use Prim.Native.Nat.{ℕ, _+_, _/_, _%_, _≤_, _<_}
 use native.Mathlib.Omega.{arith}
 use lib.ListN.{length, getD}
 use lib.Dec.{eqb, ltb}
@@ -23,7 +23,7 @@ use Rattle.comparison_laws.specs.SheetMoves.{conclusions-fit}
 use Rattle.comparison_laws.specs.RoundLaws.{Sharing, sharing}
 use Rattle.comparison_laws.specs.ResultLaws.{rounds-at}
 use Rattle.comparison_laws.specs.TrailLaws.{apart-together, apart-at}
-use Rattle.kept_classes.specs.RoundLines.{round-earlier}
+use Rattle.refinement_laws.specs.EarlierRounds.{round-earlier}
 use Rattle.kept_classes.specs.AddedStores.{added-is}
 use Rattle.kept_classes.specs.DominatingMoves.{dominates, passed-own, kept-redundant}
 use Rattle.kept_classes.specs.RoundLayout.{held-count, held-in, held-found, held-place, number-in, move-at, moves-count, move-in, liftedTarget, dominates-label, dominates-outside, lifted-in}
