@@ -46,7 +46,8 @@ enum hofadiju_number {
     HOFADIJU_BAD_NAME_BYTE = 3,     /* a name byte outside 32 to 126; the place is that byte's */
     HOFADIJU_TOO_MANY_RULES = 4,    /* more than 32 rules */
     HOFADIJU_ABSENT_FACT = 5,       /* a set holds a fact that is not on the sheet */
-    HOFADIJU_EMPTY_PREMISE = 6,     /* the premise of a rule is empty */
+                                    /* 6, once an empty premise, is not given any more: a rule with one is
+                                       read, and its conclusion always stands (document 02, card 2) */
     HOFADIJU_NODE_COUNT = 7,        /* no node, or more than 64 */
     HOFADIJU_BAD_KIND = 8,          /* a kind byte above 4 */
     HOFADIJU_BAD_NODE = 9,          /* a node number that is not allowed there */
@@ -117,7 +118,7 @@ enum hofadiju_rounds_result {
  *   count of steps          2 bytes   the trail: how to tell the two starts apart
  *   for each step:
  *     side that moves       1 byte    0 left, 1 right
- *     label                 2 bytes   the set that is added to the store first
+ *     label                 2 bytes   the set that is added to the store first; what always stands is in it
  *     mover's target        2 bytes   a position among the members
  *     reply's target        2 bytes   likewise, or HOFADIJU_NO_REPLY
  * Bytes of the answer slice beyond the length stay as they are; a refusal leaves the whole slice as it is.

@@ -5,17 +5,18 @@
 //! Both are given the same call: reading included, the same answer and work slices, the work slice
 //! cleared by the call; the reference also keeps its own buffers from call to call. For each sheet
 //! the two take turns, and the least time of several turns counts. A directory's `*.sheet` files form
-//! a class of their own. In classes called desk both are given the desk's limits; in classes called all
-//! starts both compare all sixteen starts of each sheet; in those called after so many rounds both stop
-//! there. Two tables of their own have the comparison of all starts beside that of two starts and of every
-//! two, and the comparisons after so many rounds beside the whole one, all by the library.
+//! a class of their own. In classes with standing facts the sheets have rules with an empty premise; in
+//! classes called desk both are given the desk's limits; in classes called all starts both compare all
+//! sixteen starts of each sheet; in those called after so many rounds both stop there. Two tables of their
+//! own have the comparison of all starts beside that of two starts and of every two, and the comparisons
+//! after so many rounds beside the whole one, all by the library.
 
 use hofadiju::{
     compare_all_into, compare_desk_into, compare_into, compare_rounds_into, Outcome, Refusal, ALL_ANSWER_BYTES,
     ANSWER_BYTES, DESK_ANSWER_BYTES, ROUNDS_ANSWER_BYTES, WORK_NUMBERS,
 };
 use reference::{fast::Comparer, Limits, Returned};
-use sheets::{alike_pair, draw, variants, Draft, Rng, Shape, SHAPES, STOP};
+use sheets::{alike_pair, draw, variants, with_standing, Draft, Rng, Shape, SHAPES, STOP};
 use std::hint::black_box;
 use std::path::{Path, PathBuf};
 use std::time::{Duration, Instant};
@@ -348,6 +349,7 @@ fn main() {
         drawn("medium random", 200, 2, shape("medium"), draw),
         drawn("large random", 100, 3, shape("large"), draw),
         drawn("alike pairs", 200, 4, shape("medium"), alike_pair),
+        drawn("medium with standing facts", 200, 9, shape("medium"), |shape, rng| with_standing(draw(shape, rng), rng)),
     ];
     let mut heavy = vec![found(&here.join("benches/worst")), deep()];
     let words = std::env::args().skip(1).filter(|word| !word.starts_with('-'));

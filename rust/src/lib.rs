@@ -46,6 +46,36 @@
 //! assert_eq!(refusal.line(), "REFUSED 1 20");
 //! # Ok::<(), hofadiju::Refusal>(())
 //! ```
+//!
+//! # Facts that always stand
+//!
+//! A rule with an empty premise says which facts always stand. They are in every store, also in that of a
+//! start that is written with the empty store, and in every label. With a rule that {door} always stands, the
+//! first start of the sheet above need not wait, but it takes a step more than the second.
+//!
+//! ```
+//! use hofadiju::{compare, Side, Verdict};
+//!
+//! let mut sheet: Vec<u8> = Vec::new();
+//! sheet.push(2); // two facts
+//! sheet.extend_from_slice(b"door    lamp    ");
+//! sheet.push(1); // one rule: premise, conclusion
+//! sheet.extend_from_slice(&[0, 0, 1, 0]); // nothing gives {door}
+//! sheet.push(2); // two nodes: tell {lamp}, and ask {door} then node 0
+//! sheet.extend_from_slice(&[1, 2, 0, 0, 0]);
+//! sheet.extend_from_slice(&[2, 1, 0, 0, 0]);
+//! sheet.push(2); // two starts: at the empty store with node 1, and with node 0
+//! sheet.extend_from_slice(&[0, 0, 1, 1]);
+//! sheet.extend_from_slice(&[0, 0, 1, 0]);
+//!
+//! let report = compare(&sheet, 0, 1)?;
+//! assert_eq!(report.verdict, Verdict::Diff);
+//! assert_eq!(report.members[report.left].store, 1); // {door}
+//! assert_eq!((report.steps[0].side, report.steps[0].label), (Side::Left, 1)); // nothing more is added
+//! assert_eq!(report.members[2].store, 3); // {door, lamp}, where the right start's step leads at once
+//! assert_eq!(report.steps[0].reply, Some(2));
+//! # Ok::<(), hofadiju::Refusal>(())
+//! ```
 
 #![warn(missing_docs)]
 

@@ -4,7 +4,8 @@ use std::fmt;
 
 /// Why a sheet, a choice of starts or a comparison is refused.
 ///
-/// The discriminants are document 01's numbers.
+/// The discriminants are document 01's numbers. 6, which document 01 gave for an empty premise, is not given
+/// any more: such a rule says which facts always stand.
 #[derive(Clone, Copy, Debug, PartialEq, Eq, Hash, PartialOrd, Ord)]
 #[repr(u32)]
 pub enum Reason {
@@ -18,8 +19,6 @@ pub enum Reason {
     TooManyRules = 4,
     /// A set holds a fact that is not on the sheet.
     AbsentFact = 5,
-    /// The premise of a rule is empty.
-    EmptyPremise = 6,
     /// No node, or more than 64.
     NodeCount = 7,
     /// A kind byte above 4.
@@ -49,13 +48,12 @@ pub enum Reason {
 
 impl Reason {
     /// All reasons, by number.
-    pub const ALL: [Reason; 18] = [
+    pub const ALL: [Reason; 17] = [
         Reason::CutOff,
         Reason::TooManyFacts,
         Reason::BadNameByte,
         Reason::TooManyRules,
         Reason::AbsentFact,
-        Reason::EmptyPremise,
         Reason::NodeCount,
         Reason::BadKind,
         Reason::BadNode,
@@ -112,7 +110,6 @@ impl fmt::Display for Refusal {
             Reason::BadNameByte => write!(f, "byte {place}: a fact's name has a byte outside 32 to 126"),
             Reason::TooManyRules => write!(f, "byte {place}: the count of rules is above 32"),
             Reason::AbsentFact => write!(f, "byte {place}: the set holds a fact that is not on the sheet"),
-            Reason::EmptyPremise => write!(f, "byte {place}: the rule's premise is empty"),
             Reason::NodeCount => write!(f, "byte {place}: the count of nodes is not 1 to 64"),
             Reason::BadKind => write!(f, "byte {place}: the node's kind is above 4"),
             Reason::BadNode => write!(f, "byte {place}: the node number is not allowed here"),

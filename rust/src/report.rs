@@ -24,7 +24,7 @@ pub enum Side {
 /// A configuration of a comparison's set, with its class.
 #[derive(Clone, Debug, PartialEq, Eq, Hash)]
 pub struct Member {
-    /// The store: fact i has weight 2 to the power i.
+    /// The store: fact i has weight 2 to the power i. The facts that always stand are in every store.
     pub store: u16,
     /// The threads as node numbers, ascending, repeats kept; at most eight.
     pub threads: Vec<u8>,
@@ -38,7 +38,8 @@ pub struct Member {
 pub struct Step {
     /// The side that moves.
     pub side: Side,
-    /// The label of the move: what is added to the store first.
+    /// The label of the move: what is added to the store first. Where nothing need be added it is the set
+    /// of the facts that always stand, 0 on a sheet without such facts.
     pub label: u16,
     /// Where the move leads: a position in [`Report::members`].
     pub target: u16,

@@ -103,7 +103,7 @@ fn samples() {
 fn reasons_have_numbers_and_texts() {
     for number in 0..100 {
         let reason = Reason::from_number(number);
-        assert_eq!(reason.is_some(), matches!(number, 1..=15 | 21..=23));
+        assert_eq!(reason.is_some(), matches!(number, 1..=5 | 7..=15 | 21..=23));
         let Some(reason) = reason else { continue };
         let refusal = Refusal { reason, place: 1 };
         assert_eq!(refusal.number(), number);

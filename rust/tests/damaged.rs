@@ -21,9 +21,10 @@ fn damaged_sheets() {
         }
     }
     println!("{:?}", harness.seen);
-    for number in [0, 1, 2, 3, 4, 5, 6, 7, 8, 9, 10, 11, 12, 13, 21] {
+    for number in [0, 1, 2, 3, 4, 5, 7, 8, 9, 10, 11, 12, 13, 21] {
         assert!(harness.seen[number] > 0, "{number} was not seen");
     }
+    assert_eq!(harness.seen[6], 0);
 }
 
 #[test]

@@ -1,6 +1,6 @@
-//! Each refusal of document 01, its condition just met and just not met. The desk's own numbers for 21
-//! are in desk.rs, the limits over all starts in all_starts.rs, and slices after so many rounds in
-//! rounds_bound.rs.
+//! Each refusal of document 01, its condition just met and just not met; 6 is gone by card 2 of document 02.
+//! The desk's own numbers for 21 are in desk.rs, the limits over all starts in all_starts.rs, and slices
+//! after so many rounds in rounds_bound.rs.
 
 mod common;
 
@@ -129,14 +129,38 @@ fn refusal_5_absent_facts() {
 }
 
 #[test]
-fn refusal_6_empty_premise() {
-    assert_eq!(with_byte(RULES + 1, 1), (0, 0));
-    assert_eq!(with_byte(RULES + 1, 0), (6, RULES + 1));
-    // An empty conclusion is allowed, and 5 comes before 6 where there are no facts.
+fn no_refusal_6_for_an_empty_premise() {
+    assert_eq!(with_byte(RULES + 1, 0), (0, 0));
     assert_eq!(with_byte(RULES + 3, 0), (0, 0));
-    let no_facts = |rule| Draft { facts: 0, rules: vec![rule], ..good() };
-    assert_eq!(number(&no_facts((0, 1))), (6, 2));
-    assert_eq!(number(&no_facts((1, 0))), (5, 2));
+    let rule = |facts, rule| number(&Draft { facts, rules: vec![rule], ..good() });
+    for conclusion in 0..4 {
+        assert_eq!(rule(2, (0, conclusion)), (0, 0));
+    }
+    // 5 holds for both sets of a rule, the premise's first, whether or not the other set is empty.
+    for absent in [4, 1 << 12, 1 << 15, u16::MAX] {
+        assert_eq!(rule(2, (0, absent)), (5, RULES + 3));
+        assert_eq!(rule(2, (absent, 0)), (5, RULES + 1));
+        assert_eq!(rule(2, (absent, absent)), (5, RULES + 1));
+    }
+    // An empty premise is read to its end, and what follows is checked.
+    let mut bytes = good().bytes();
+    bytes[RULES + 1] = 0;
+    for end in RULES + 1..RULES + 5 {
+        assert_eq!(number_of(&bytes[..end]), (1, end));
+    }
+    bytes[NODES] = 65;
+    assert_eq!(number_of(&bytes), (7, NODES));
+    // Without facts only the rule (0, 0) has no absent one.
+    let no_facts = |rules: Vec<(u16, u16)>| {
+        let nodes = vec![(TELL, 0, 0), (ASK, 0, 0)];
+        number(&Draft { facts: 0, rules, nodes, starts: vec![(0, vec![0]), (0, vec![1])] })
+    };
+    assert_eq!(no_facts(vec![(0, 0)]), (0, 0));
+    assert_eq!(no_facts(vec![(0, 0); 32]), (0, 0));
+    assert_eq!(no_facts(vec![(0, 0); 33]), (4, 1));
+    assert_eq!(no_facts(vec![(0, 1)]), (5, 4));
+    assert_eq!(no_facts(vec![(1, 0)]), (5, 2));
+    assert_eq!(no_facts(vec![(0, 0), (0, 1)]), (5, 8));
 }
 
 #[test]

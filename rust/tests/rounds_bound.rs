@@ -399,9 +399,10 @@ fn refuses_as_the_comparing_call_does() {
             beside.hold(&bytes, (rng.below(3), rng.below(3), rounds), &mut rng);
         }
         println!("{:?}, only the comparing call's answer slice too short: {}", beside.refused, beside.only_whole_short);
-        for number in [0, 1, 2, 3, 4, 5, 6, 7, 8, 9, 10, 11, 12, 13, 14, 21, 22, 23] {
+        for number in [0, 1, 2, 3, 4, 5, 7, 8, 9, 10, 11, 12, 13, 14, 21, 22, 23] {
             assert!(beside.refused[number] > 0, "{number} was not seen");
         }
+        assert_eq!(beside.refused[6], 0);
         assert!(beside.only_whole_short > 100);
     }
 }
@@ -622,9 +623,10 @@ fn damaged_sheets() {
         seen[desk.0 as usize] += 1;
     }
     println!("{seen:?}, {} calls of each, {:?}", pair.desk.calls, pair.cases);
-    for number in [0, 1, 2, 3, 4, 5, 6, 7, 8, 9, 10, 11, 12, 13, 14, 21] {
+    for number in [0, 1, 2, 3, 4, 5, 7, 8, 9, 10, 11, 12, 13, 14, 21] {
         assert!(seen[number] > 0, "{number} was not seen");
     }
+    assert_eq!(seen[6], 0);
 }
 
 #[test]

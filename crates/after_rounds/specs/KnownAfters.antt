@@ -1,4 +1,5 @@
--- Rows for the call for so many rounds, on document 01's sheet K; one statement proves them all.
+-- Rows for the call for so many rounds, on document 01's sheet K and on a sheet with facts that always stand; one statement proves them
+-- all.
 use mathlib.Core.List.{List, [], _∷_, _++_}
 use Prim.Native.Nat.{ℕ}
 use lib.Dec.{T}
@@ -6,14 +7,14 @@ use lib.ListN.{length, drop}
 use Rattle.lists.specs.Lists.{all}
 use Rattle.stores.specs.Stores.{closure, passes, pass, conclusions}
 use Rattle.sheets.specs.Sheet.{openWithin}
-use Rattle.sheet_reading.specs.Reading.{recordsFrom, countAt, setAt, nameBytes, nameAt, namesFrom, factsAt, premiseAt, ruleAt, rulesAt, kindAt, firstAt, secondAt, nodeAt, nodesAt, threadAt, threadsFrom, startAt, startsAt, readSheet, readChoice}
+use Rattle.sheet_reading.specs.Reading.{recordsFrom, countAt, setAt, nameBytes, nameAt, namesFrom, factsAt, ruleAt, rulesAt, kindAt, firstAt, secondAt, nodeAt, nodesAt, threadAt, threadsFrom, startAt, startsAt, readSheet, readChoice}
 use Rattle.moves.specs.Moves.{labels, stepsWithin, moves}
 use Rattle.comparison.specs.CallLimits.{Limits, limits, deskLimits, workLength}
 use Rattle.comparison.specs.Classes.{numberedFrom, classTotal}
 use Rattle.comparison.specs.Set.{exploredFrom, explored}
 use Rattle.comparison.specs.Rounds.{refined, classes}
 use Rattle.comparison.specs.Outcome.{reported, refusal}
-use Rattle.comparison.specs.KnownSheets.{bytesOfK, bytesOfTells}
+use Rattle.comparison.specs.KnownSheets.{bytesOfK, bytesOfTells, bytesOfStanding}
 use Rattle.comparison.specs.KnownCases.{Row, row, right, nines}
 use Rattle.answers.specs.ReadBack.{membersRead, classesRead}
 use Rattle.after_rounds.specs.AfterRounds.{Verdict, SAME, DIFF, OPEN, AfterRounds, Afters, afterOn, afterBytes, afterLength, afterWritten, afterRoom, compareRoundsWith, compareRounds, compareRoundsDesk}
@@ -88,6 +89,11 @@ table =
     ∷ row (brief (after 4 5 1)) (0 ∷ 1 ∷ 4 ∷ 4 ∷ 24 ∷ [])
     -- one start twice, with nothing to do
     ∷ row (brief (after 6 6 0)) (0 ∷ 0 ∷ 1 ∷ 1 ∷ 7 ∷ [])
+    -- document 02, card 2, least store 3: [1] and [3] part in round 2
+    ∷ row (brief (compareRounds bytesOfStanding 0 1 0 workLength 19)) (0 ∷ 2 ∷ 1 ∷ 3 ∷ 19 ∷ [])
+    ∷ row (brief (compareRounds bytesOfStanding 0 1 1 workLength 19)) (0 ∷ 2 ∷ 2 ∷ 3 ∷ 19 ∷ [])
+    ∷ row (whole (compareRounds bytesOfStanding 0 1 2 workLength 19))
+    (0 ∷ 1 ∷ 3 ∷ 3 ∷ 19 ∷ 3 ∷ 0 ∷ 3 ∷ 0 ∷ 0 ∷ 0 ∷ 0 ∷ 3 ∷ 0 ∷ 1 ∷ 1 ∷ 1 ∷ 0 ∷ 3 ∷ 0 ∷ 1 ∷ 3 ∷ 2 ∷ 0 ∷ [])
     -- what is read back
     ∷ row (readAgain (after 0 1 0)) (2 ∷ 0 ∷ 0 ∷ 1 ∷ 1 ∷ 2 ∷ 2 ∷ [])
     ∷ row (readAgain (after 0 1 1)) (0 ∷ 0 ∷ 0 ∷ 1 ∷ 2 ∷ 3 ∷ 4 ∷ [])
@@ -108,5 +114,5 @@ table =
     ∷ []
 
 pub afters-right : T (all right table)
-unfolding closure passes pass conclusions moves stepsWithin labels openWithin readSheet readChoice recordsFrom countAt setAt nameBytes nameAt namesFrom factsAt premiseAt ruleAt rulesAt kindAt firstAt secondAt nodeAt nodesAt threadAt threadsFrom startAt startsAt numberedFrom refined classes exploredFrom explored afterOn compareRoundsWith membersRead classesRead
+unfolding closure passes pass conclusions moves stepsWithin labels openWithin readSheet readChoice recordsFrom countAt setAt nameBytes nameAt namesFrom factsAt ruleAt rulesAt kindAt firstAt secondAt nodeAt nodesAt threadAt threadsFrom startAt startsAt numberedFrom refined classes exploredFrom explored afterOn compareRoundsWith membersRead classesRead
 afters-right = tt

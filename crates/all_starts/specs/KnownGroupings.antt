@@ -1,5 +1,5 @@
--- Rows for the call for all starts, on document 01's sheet K with all its eight starts, and with three that are one member; one statement
--- proves them all.
+-- Rows for the call for all starts, on document 01's sheet K with all its eight starts, and with three that are one member, and on a sheet
+-- with facts that always stand; one statement proves them all.
 use mathlib.Core.List.{List, [], _∷_, _++_}
 use Prim.Native.Nat.{ℕ}
 use lib.Dec.{T}
@@ -7,14 +7,14 @@ use lib.ListN.{drop}
 use Rattle.lists.specs.Lists.{all}
 use Rattle.stores.specs.Stores.{closure, passes, pass, conclusions}
 use Rattle.sheets.specs.Sheet.{openWithin}
-use Rattle.sheet_reading.specs.Reading.{recordsFrom, countAt, setAt, nameBytes, nameAt, namesFrom, factsAt, premiseAt, ruleAt, rulesAt, kindAt, firstAt, secondAt, nodeAt, nodesAt, threadAt, threadsFrom, startAt, startsAt, readSheet}
+use Rattle.sheet_reading.specs.Reading.{recordsFrom, countAt, setAt, nameBytes, nameAt, namesFrom, factsAt, ruleAt, rulesAt, kindAt, firstAt, secondAt, nodeAt, nodesAt, threadAt, threadsFrom, startAt, startsAt, readSheet}
 use Rattle.moves.specs.Moves.{labels, stepsWithin, moves}
 use Rattle.comparison.specs.CallLimits.{limits, workLength}
 use Rattle.comparison.specs.Classes.{numberedFrom}
 use Rattle.comparison.specs.Set.{exploredFrom, explored}
 use Rattle.comparison.specs.Rounds.{refined, classes, roundsFrom, rounds}
 use Rattle.comparison.specs.Outcome.{reported, refusal}
-use Rattle.comparison.specs.KnownSheets.{rule, start, section, threeFacts, nodesOfK, bytesOfK}
+use Rattle.comparison.specs.KnownSheets.{rule, start, section, threeFacts, nodesOfK, bytesOfK, bytesOfStanding}
 use Rattle.comparison.specs.KnownCases.{Row, row, right, nines}
 use Rattle.answers.specs.ReadBack.{membersRead, classesRead, behindMembers}
 use Rattle.all_starts.specs.Grouping.{Groups, groupingOn, groupingBytes, groupingLength, groupingAfter, groupingRoom, compareAllWith, compareAll}
@@ -61,12 +61,28 @@ bytesOfEqual =
     ++ (section (rule 2 1 ∷ [])
     ++ (section nodesOfK ++ section (start 0 (8 ∷ []) ∷ start 0 (1 ∷ 1 ∷ []) ∷ start 0 (0 ∷ 1 ∷ 0 ∷ 1 ∷ []) ∷ [])))
 
+-- document 02, card 2: seven members, at the least store 3 and at 7, and the classes of [1], [3], [2] and [4]; an ask of what stands and
+-- the choice of that ask or one that waits for more are alike
+abbrev standingAnswer : List ℕ
+standingAnswer =
+    7 ∷ 0
+    ∷ 3 ∷ 0 ∷ 0 ∷ 0 ∷ 0
+    ∷ 3 ∷ 0 ∷ 1 ∷ 1 ∷ 1 ∷ 0
+    ∷ 3 ∷ 0 ∷ 1 ∷ 2 ∷ 2 ∷ 0
+    ∷ 3 ∷ 0 ∷ 1 ∷ 3 ∷ 3 ∷ 0
+    ∷ 3 ∷ 0 ∷ 1 ∷ 4 ∷ 3 ∷ 0
+    ∷ 7 ∷ 0 ∷ 0 ∷ 4 ∷ 0
+    ∷ 7 ∷ 0 ∷ 1 ∷ 1 ∷ 5 ∷ 0
+    ∷ 1 ∷ 0 ∷ 3 ∷ 0 ∷ 2 ∷ 0 ∷ 3 ∷ 0 ∷ []
+
 abbrev table : List Row
 table =
     row (whole (compareAll bytesOfK workLength (groupingRoom limits))) (0 ∷ 2 ∷ 93 ∷ answerOfK)
     -- equal starts are one member, and each has its class
     ∷ row (whole (compareAll bytesOfEqual workLength 26))
     (0 ∷ 2 ∷ 26 ∷ 3 ∷ 0 ∷ 0 ∷ 0 ∷ 0 ∷ 0 ∷ 0 ∷ 0 ∷ 0 ∷ 1 ∷ 1 ∷ 1 ∷ 0 ∷ 0 ∷ 0 ∷ 2 ∷ 1 ∷ 1 ∷ 2 ∷ 0 ∷ 2 ∷ 0 ∷ 2 ∷ 0 ∷ 2 ∷ 0 ∷ [])
+    -- facts that always stand
+    ∷ row (whole (compareAll bytesOfStanding workLength 50)) (0 ∷ 2 ∷ 50 ∷ standingAnswer)
     -- bytes beyond the answer stay, and a refusal leaves the slice as it is
     ∷ row (groupingAfter (compareAll bytesOfK workLength 95) (nines 95)) (answerOfK ++ nines 2)
     ∷ row (groupingAfter (compareAll bytesOfK workLength 92) (nines 92)) (nines 92)
@@ -80,5 +96,5 @@ table =
     ∷ []
 
 pub groupings-right : T (all right table)
-unfolding closure passes pass conclusions moves stepsWithin labels openWithin readSheet recordsFrom countAt setAt nameBytes nameAt namesFrom factsAt premiseAt ruleAt rulesAt kindAt firstAt secondAt nodeAt nodesAt threadAt threadsFrom startAt startsAt numberedFrom refined classes roundsFrom rounds exploredFrom explored groupingOn compareAllWith membersRead classesRead behindMembers wordsRead
+unfolding closure passes pass conclusions moves stepsWithin labels openWithin readSheet recordsFrom countAt setAt nameBytes nameAt namesFrom factsAt ruleAt rulesAt kindAt firstAt secondAt nodeAt nodesAt threadAt threadsFrom startAt startsAt numberedFrom refined classes roundsFrom rounds exploredFrom explored groupingOn compareAllWith membersRead classesRead behindMembers wordsRead
 groupings-right = tt

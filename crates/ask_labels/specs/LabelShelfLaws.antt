@@ -12,7 +12,7 @@ use lib.Dec.{eqb}
 use borrow.Author.Tests.{eqb-true, eqb-false}
 use Rattle.ask_labels.specs.declared.Shelf.{Shelf}
 use Rattle.ask_labels.specs.declared.Labelled.{Labelled}
-use Rattle.label_search.specs.FactsOutside.{outside}
+use Rattle.stores.specs.FactsOutside.{outside}
 use Rattle.label_search.specs.LabelOrder.{labels-missing}
 use Rattle.list_laws.specs.Frames.{SameOutside, outside-same, outside-again, outside-wider, outside-set}
 use Rattle.label_search.specs.AskLabels.{LabelsAre, part}

@@ -10,7 +10,7 @@ ghost use mathlib.Core.Bool.{cond};
 ghost use Prim.Native.Nat.{_+_, _-_, _/_, _≤_, _<_, _^_};
 ghost use lib.ListN.{length};
 ghost use lib.Dec.{eqb};
-ghost use Rattle.label_search.specs.FactsOutside.{outside};
+ghost use Rattle.stores.specs.FactsOutside.{outside};
 ghost use Rattle.ask_labels.specs.LabelShelf.{maxSets, noEntries, askedOf, putEntry, Shelved, HasRoom, ShelfRoom, LabelsGiven};
 ghost use Rattle.work_layout.specs.WorkLayout.{listsAt, listsEnd};
 ghost use Rattle.sheets.specs.SheetLimits.{maxFacts};

@@ -6,7 +6,7 @@ use Prim.Native.Nat.{ℕ, _+_, _/_, _%_, _≤_}
 use native.Mathlib.Omega.{arith}
 use Rattle.lists.specs.Lists.{Ascends}
 use Rattle.list_laws.specs.Frames.{SameOutside, outside-wider}
-use Rattle.number_lists.specs.NumberLists.{numberOrder}
+use Rattle.list_laws.specs.AscendingLaws.{numberOrder}
 use Rattle.number_lists.specs.NumberLaws.{numbers-outside}
 use Rattle.member_table.specs.MemberTable.{memberIn, membersIn, idIn}
 use Rattle.member_table.specs.TableInPart.{part-outside, kept-outside}

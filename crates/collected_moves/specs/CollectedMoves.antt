@@ -8,7 +8,8 @@ use Rattle.lists.specs.Lists.{Ascends}
 use Rattle.list_laws.specs.Frames.{SameOutside}
 use Rattle.sheets.specs.Sheet.{Configuration}
 use Rattle.moves.specs.Orders.{Move}
-use Rattle.number_lists.specs.NumberLists.{numberOrder, numbersIn}
+use Rattle.list_laws.specs.AscendingLaws.{numberOrder}
+use Rattle.number_lists.specs.NumberLists.{numbersIn}
 use Rattle.member_table.specs.MemberTable.{memberIn, membersIn, idIn, partAt, Kept}
 use Rattle.collected_moves.specs.declared.Caps.{Caps}
 use Rattle.collected_moves.specs.declared.Running.{Running}

@@ -12,7 +12,7 @@ use Rattle.list_laws.specs.Members.{mem-map, map-mem}
 use Rattle.list_laws.specs.Frames.{SameOutside, outside-wider, outside-then, outside-part}
 use Rattle.sheets.specs.Sheet.{Configuration}
 use Rattle.moves.specs.Orders.{Move}
-use Rattle.number_lists.specs.NumberLists.{numberOrder}
+use Rattle.list_laws.specs.AscendingLaws.{numberOrder}
 use Rattle.number_lists.specs.NumberLaws.{numbers-outside}
 use Rattle.number_lists.specs.Entered as put
 use Rattle.number_lists.specs.EnteredLaws as put-laws

@@ -9,7 +9,7 @@ use lib.Dec.{T, eqb}
 use Rattle.lists.specs.Lists.{select, all, concatMap, sameNumbers}
 use Rattle.stores.specs.Stores.{closure, passes, pass, conclusions}
 use Rattle.sheets.specs.Sheet.{Configuration, Sheet, openWithin}
-use Rattle.sheet_reading.specs.Reading.{recordsFrom, countAt, setAt, nameBytes, nameAt, namesFrom, factsAt, premiseAt, ruleAt, rulesAt, kindAt, firstAt, secondAt, nodeAt, nodesAt, threadAt, threadsFrom, startAt, startsAt, readSheet, readChoice}
+use Rattle.sheet_reading.specs.Reading.{recordsFrom, countAt, setAt, nameBytes, nameAt, namesFrom, factsAt, ruleAt, rulesAt, kindAt, firstAt, secondAt, nodeAt, nodesAt, threadAt, threadsFrom, startAt, startsAt, readSheet, readChoice}
 use Rattle.moves.specs.Moves.{labels, stepsWithin, moves}
 use Rattle.comparison.specs.CallLimits.{limits, deskLimits, workLength, noReply, reportRoom}
 use Rattle.comparison.specs.Classes.{placeOf, numberedFrom}
@@ -21,7 +21,7 @@ use Rattle.comparison.specs.Outcome.{reported, refusal, workAfter}
 use Rattle.comparison.specs.Call.{compareWith, compare, compareDesk, answerAfter}
 use Rattle.comparison.specs.Print.{printed}
 use Rattle.printed_lines.specs.Decimal.{decimal, decimalWithin}
-use Rattle.comparison.specs.KnownSheets.{bytesOfK, bytesOfGrowing, bytesOfReplies, bytesOfTies, bytesOfWide, bytesOfPaper, bytesOfFacts, bytesOfThreads, bytesOfTwoMore, bytesOfTells, sheetK, sheetL}
+use Rattle.comparison.specs.KnownSheets.{bytesOfK, bytesOfGrowing, bytesOfReplies, bytesOfTies, bytesOfWide, bytesOfPaper, bytesOfFacts, bytesOfThreads, bytesOfTwoMore, bytesOfTells, bytesOfStanding, bytesOfNothing, bytesOfAbsent, sheetK, sheetL, sheetStanding}
 
 -- what the definitions give, and what document 01 says, as numbers
 pub record Row : Type 0 where
@@ -177,6 +177,30 @@ wideText =
     ∷ 82 ∷ 32 ∷ 50 ∷ 53 ∷ 56 ∷ 32 ∷ 50 ∷ 32 ∷ 51 ∷ 10
     ∷ 76 ∷ 32 ∷ 48 ∷ 32 ∷ 50 ∷ 32 ∷ 45 ∷ 10 ∷ []
 
+-- the answer for [1] and [3] of the sheet with standing facts: [], [1] and [3], all at the least store 3; the left tells and is answered by
+-- an ask of what stands, and then the right tells; both labels are the least store
+abbrev pub standingAnswer : List ℕ
+standingAnswer =
+    3 ∷ 0
+    ∷ 3 ∷ 0 ∷ 0 ∷ 0 ∷ 0
+    ∷ 3 ∷ 0 ∷ 1 ∷ 1 ∷ 1 ∷ 0
+    ∷ 3 ∷ 0 ∷ 1 ∷ 3 ∷ 2 ∷ 0
+    ∷ 2 ∷ 0
+    ∷ 0 ∷ 3 ∷ 0 ∷ 0 ∷ 0 ∷ 1 ∷ 0
+    ∷ 1 ∷ 3 ∷ 0 ∷ 0 ∷ 0 ∷ 255 ∷ 255 ∷ []
+
+-- and its text: DIFF 2, CONFIGURATIONS 3; 0 3 0 -, 1 3 1 1, 2 3 2 3; TRAIL 2; L 3 0 1, R 3 0 -
+abbrev pub standingText : List ℕ
+standingText =
+    68 ∷ 73 ∷ 70 ∷ 70 ∷ 32 ∷ 50 ∷ 10
+    ∷ 67 ∷ 79 ∷ 78 ∷ 70 ∷ 73 ∷ 71 ∷ 85 ∷ 82 ∷ 65 ∷ 84 ∷ 73 ∷ 79 ∷ 78 ∷ 83 ∷ 32 ∷ 51 ∷ 10
+    ∷ 48 ∷ 32 ∷ 51 ∷ 32 ∷ 48 ∷ 32 ∷ 45 ∷ 10
+    ∷ 49 ∷ 32 ∷ 51 ∷ 32 ∷ 49 ∷ 32 ∷ 49 ∷ 10
+    ∷ 50 ∷ 32 ∷ 51 ∷ 32 ∷ 50 ∷ 32 ∷ 51 ∷ 10
+    ∷ 84 ∷ 82 ∷ 65 ∷ 73 ∷ 76 ∷ 32 ∷ 50 ∷ 10
+    ∷ 76 ∷ 32 ∷ 51 ∷ 32 ∷ 48 ∷ 32 ∷ 49 ∷ 10
+    ∷ 82 ∷ 32 ∷ 51 ∷ 32 ∷ 48 ∷ 32 ∷ 45 ∷ 10 ∷ []
+
 -- REFUSED 12 11
 abbrev pub refusedText : List ℕ
 refusedText = 82 ∷ 69 ∷ 70 ∷ 85 ∷ 83 ∷ 69 ∷ 68 ∷ 32 ∷ 49 ∷ 50 ∷ 32 ∷ 49 ∷ 49 ∷ 10 ∷ []
@@ -273,8 +297,26 @@ table =
     ∷ row (brief (compareDesk (bytesOfTells 64) 0 1 workLength 0)) (refusedAs 21 0)
     -- and so with any limits
     ∷ row (brief (compareWith (record { members = 2; threads = 2; moves = 2 }) bytesOfK 7 4 workLength 35)) (refusedAs 21 0)
+    -- ---- document 02, card 2: the least store is 3, and every closure includes it
+    ∷ row (map (closure (sheetStanding .rules)) (0 ∷ 1 ∷ 2 ∷ 3 ∷ 4 ∷ 5 ∷ 6 ∷ 7 ∷ [])) (3 ∷ 3 ∷ 3 ∷ 3 ∷ 7 ∷ 7 ∷ 7 ∷ 7 ∷ [])
+    -- a tell of nothing: label 3, store 3; an ask of 4: label 7, store 7; of what stands: label 3, store 3; either: both
+    ∷ row (labelsAt sheetStanding 3 1 ++ storesAt sheetStanding 3 1) (3 ∷ 3 ∷ [])
+    ∷ row (labelsAt sheetStanding 3 2 ++ storesAt sheetStanding 3 2) (7 ∷ 7 ∷ [])
+    ∷ row (labelsAt sheetStanding 3 3 ++ storesAt sheetStanding 3 3) (3 ∷ 3 ∷ [])
+    ∷ row (labelsAt sheetStanding 3 4 ++ storesAt sheetStanding 3 4) (3 ∷ 7 ∷ 3 ∷ 7 ∷ [])
+    -- [1] and [3]: a whole DIFF, and its text
+    ∷ row (whole (compared bytesOfStanding 0 1)) (1 ∷ 2 ∷ 1 ∷ 2 ∷ standingAnswer)
+    ∷ row (printed (compared bytesOfStanding 0 1)) standingText
+    -- [2] and [4]: the ask of 4 is answered, that of what stands is not; [2] with itself: its result is round 1
+    ∷ row (brief (compared bytesOfStanding 2 3)) (diffIn 1 (step 1 3 1 noReply ∷ []))
+    ∷ row (brief (compared bytesOfStanding 2 2)) (sameIn 1)
+    -- [3] and [4]: waiting for 4 as well makes no difference beside an ask of what stands
+    ∷ row (brief (compared bytesOfStanding 1 3)) (sameIn 2)
+    -- a rule with nothing on both sides says nothing; 5 holds for both sets of a rule
+    ∷ row (brief (compared bytesOfNothing 0 1)) (diffIn 1 (step 0 0 0 noReply ∷ []))
+    ∷ row (brief (compared bytesOfAbsent 0 1)) (refusedAs 5 28)
     ∷ []
 
 pub all-right : T (all right table)
-unfolding closure passes pass conclusions moves stepsWithin labels openWithin readSheet readChoice recordsFrom countAt setAt nameBytes nameAt namesFrom factsAt premiseAt ruleAt rulesAt kindAt firstAt secondAt nodeAt nodesAt threadAt threadsFrom startAt startsAt numberedFrom refined classes roundsFrom rounds exploredFrom explored trailFrom reportOn compareWith decimal decimalWithin
+unfolding closure passes pass conclusions moves stepsWithin labels openWithin readSheet readChoice recordsFrom countAt setAt nameBytes nameAt namesFrom factsAt ruleAt rulesAt kindAt firstAt secondAt nodeAt nodesAt threadAt threadsFrom startAt startsAt numberedFrom refined classes roundsFrom rounds exploredFrom explored trailFrom reportOn compareWith decimal decimalWithin
 all-right = tt

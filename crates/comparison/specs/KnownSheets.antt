@@ -6,7 +6,7 @@ use lib.ListN.{length}
 use Rattle.lists.specs.Lists.{concatMap}
 use Rattle.stores.specs.Stores.{Rule, closure, passes, pass, conclusions}
 use Rattle.sheets.specs.Sheet.{stop, tell, ask, both, either, Sheet, openWithin}
-use Rattle.sheet_reading.specs.Reading.{got, recordsFrom, countAt, setAt, nameBytes, nameAt, namesFrom, factsAt, premiseAt, ruleAt, rulesAt, kindAt, firstAt, secondAt, nodeAt, nodesAt, threadAt, threadsFrom, startAt, startsAt, readSheet}
+use Rattle.sheet_reading.specs.Reading.{got, recordsFrom, countAt, setAt, nameBytes, nameAt, namesFrom, factsAt, ruleAt, rulesAt, kindAt, firstAt, secondAt, nodeAt, nodesAt, threadAt, threadsFrom, startAt, startsAt, readSheet}
 
 -- ---- records as bytes
 -- two bytes, the low one first
@@ -130,11 +130,11 @@ bytesOfTells set =
 
 -- ---- reading K and L
 pub k-reads : readSheet bytesOfK ≡ got sheetK (length bytesOfK)
-unfolding readSheet recordsFrom countAt setAt nameBytes nameAt namesFrom factsAt premiseAt ruleAt rulesAt kindAt firstAt secondAt nodeAt nodesAt threadAt threadsFrom startAt startsAt openWithin closure passes pass conclusions
+unfolding readSheet recordsFrom countAt setAt nameBytes nameAt namesFrom factsAt ruleAt rulesAt kindAt firstAt secondAt nodeAt nodesAt threadAt threadsFrom startAt startsAt openWithin closure passes pass conclusions
 k-reads = refl
 
 pub l-reads : readSheet bytesOfL ≡ got sheetL (length bytesOfL)
-unfolding readSheet recordsFrom countAt setAt nameBytes nameAt namesFrom factsAt premiseAt ruleAt rulesAt kindAt firstAt secondAt nodeAt nodesAt threadAt threadsFrom startAt startsAt openWithin closure passes pass conclusions
+unfolding readSheet recordsFrom countAt setAt nameBytes nameAt namesFrom factsAt ruleAt rulesAt kindAt firstAt secondAt nodeAt nodesAt threadAt threadsFrom startAt startsAt openWithin closure passes pass conclusions
 l-reads = refl
 
 -- ---- a sheet whose trail has a choice of replies: node 7 may become two tells, one tell or nothing, node 6 one tell or
@@ -159,6 +159,40 @@ bytesOfWide =
     section (times 9 (nameBytesOf 48))
     ++ (section (rule 256 2 ∷ rule 4 511 ∷ rule 8 511 ∷ rule 16 511 ∷ rule 32 511 ∷ rule 64 511 ∷ rule 128 511 ∷ [])
     ++ (section (node 0 0 0 ∷ node 1 0 0 ∷ node 2 256 1 ∷ node 2 256 0 ∷ node 4 2 3 ∷ []) ++ section (start 0 (2 ∷ []) ∷ start 0 (4 ∷ []) ∷ [])))
+
+-- ---- document 02, card 2: facts that always stand. Nothing gives fact 0, which gives fact 1, and nothing gives nothing: the least store is 3.
+-- Nodes: 1 tells nothing, 2 asks 4 and then tells, 3 asks 2, which stands, and then tells, 4 does either. All starts have store 0 on the
+-- sheet, and so store 3; they are, 0 to 3: [1], [3], [2], [4].
+abbrev pub bytesOfStanding : List ℕ
+bytesOfStanding =
+    threeFacts
+    ++ (section (rule 1 2 ∷ rule 0 1 ∷ rule 0 0 ∷ [])
+    ++ (section (node 0 0 0 ∷ node 1 0 0 ∷ node 2 4 1 ∷ node 2 2 1 ∷ node 4 2 3 ∷ [])
+    ++ section (start 0 (1 ∷ []) ∷ start 0 (3 ∷ []) ∷ start 0 (2 ∷ []) ∷ start 0 (4 ∷ []) ∷ [])))
+
+abbrev pub sheetStanding : Sheet
+sheetStanding =
+    record {
+      facts = 3;
+      rules = record { premise = 1; conclusion = 2 } ∷ record { premise = 0; conclusion = 1 } ∷ record { premise = 0; conclusion = 0 } ∷ [];
+      nodes = stop ∷ tell 3 ∷ ask 7 1 ∷ ask 3 1 ∷ either 2 3 ∷ [];
+      starts =
+          record { store = 3; threads = 1 ∷ [] } ∷ record { store = 3; threads = 3 ∷ [] } ∷ record { store = 3; threads = 2 ∷ [] }
+          ∷ record { store = 3; threads = 4 ∷ [] } ∷ [];
+    }
+
+-- every set is closed on reading, the empty store of a start too
+pub standing-reads : readSheet bytesOfStanding ≡ got sheetStanding (length bytesOfStanding)
+unfolding readSheet recordsFrom countAt setAt nameBytes nameAt namesFrom factsAt ruleAt rulesAt kindAt firstAt secondAt nodeAt nodesAt threadAt threadsFrom startAt startsAt openWithin closure passes pass conclusions
+standing-reads = refl
+
+-- no facts, and nothing gives nothing; tell 0, and two starts, with it and with no thread
+abbrev pub bytesOfNothing : List ℕ
+bytesOfNothing = section [] ++ (section (rule 0 0 ∷ []) ++ (section (node 1 0 0 ∷ []) ++ section (start 0 (0 ∷ []) ∷ start 0 [] ∷ [])))
+
+-- three facts, and nothing gives a fourth
+abbrev pub bytesOfAbsent : List ℕ
+bytesOfAbsent = threeFacts ++ (section (rule 0 8 ∷ []) ++ (section (node 0 0 0 ∷ []) ++ section (start 0 [] ∷ start 0 [] ∷ [])))
 
 -- ---- the paper's running example. Facts 0 to 4: z < 7, z < 5, x < 7, x < 5, y = 1; z < 5 gives z < 7, and x < 5 gives x < 7.
 -- Nodes 0 to 11: T, P, Q, P + Q, R, S, R + S, T', Q', P + Q', R', R' + S. Its starts, 0 to 2: S, R + S, R' + S.

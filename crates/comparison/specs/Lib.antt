@@ -9,6 +9,7 @@ pub mod Frame
 pub mod Call
 pub mod Print
 pub mod SheetTransitions
+pub mod TransitionSentences
 pub mod Promise
 pub mod TrailSentences
 pub mod KnownSheets

@@ -12,7 +12,8 @@ use borrow.Author.Tests.{eqb-true, eqb-false, ltb-true, ltb-false}
 use Rattle.lists.specs.Lists.{Ascends}
 use Rattle.list_laws.specs.Frames.{SameOutside, outside-set, outside-wider, outside-again}
 use Rattle.sheets.specs.Sheet.{Configuration}
-use Rattle.number_lists.specs.NumberLists.{numberOrder, numbersIn}
+use Rattle.list_laws.specs.AscendingLaws.{numberOrder}
+use Rattle.number_lists.specs.NumberLists.{numbersIn}
 use Rattle.number_lists.specs.NumberLaws.{numbers-same}
 use Rattle.label_search.specs.LabelScanLaws.{table-agree}
 use Rattle.ask_labels.specs.LabelShelfLaws.{sets-few}

@@ -11,11 +11,10 @@ use Rattle.lists.specs.Lists.{Distinct, arrange}
 use Rattle.list_laws.specs.TestLaws.{Tested, tested, passes, fails, neither-below}
 use Rattle.list_laws.specs.Members.{mem-map}
 use Rattle.list_laws.specs.ListPlaces.{getD-in}
-use Rattle.list_laws.specs.AscendingLaws.{arrange-ascends, arrange-keeps, arrange-only}
+use Rattle.list_laws.specs.AscendingLaws.{arrange-ascends, arrange-keeps, arrange-only, numberOrder}
 use Rattle.list_laws.specs.Counting.{distinct-length, ascends-distinct, distinct-map-on}
 use Rattle.list_laws.specs.Tabulate.{tabulate, tabulate-length}
 use Rattle.list_laws.specs.TabulateLaws.{mem-tabulate, tabulate-mem, distinct-tabulate}
-use Rattle.number_lists.specs.NumberLists.{numberOrder}
 use Rattle.comparison.specs.Classes.{position, classTotal}
 use Rattle.comparison.specs.Promise.{NumberedByFirst}
 use Rattle.comparison_laws.specs.ClassLaws.{position-found, position-at}

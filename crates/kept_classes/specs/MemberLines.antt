@@ -10,8 +10,7 @@ use borrow.Author.Tests.{eqb-true, eq-eqb, not-true}
 use Rattle.list_laws.specs.TestLaws.{true-false, not-passes}
 use Rattle.lists.specs.Lists.{select, Ascends, arrange}
 use Rattle.list_laws.specs.Members.{mem-select, select-mem, mem-map, map-mem}
-use Rattle.list_laws.specs.AscendingLaws.{arrange-ascends, arrange-keeps, arrange-only, ascends-unique}
-use Rattle.number_lists.specs.NumberLists.{numberOrder}
+use Rattle.list_laws.specs.AscendingLaws.{arrange-ascends, arrange-keeps, arrange-only, ascends-unique, numberOrder}
 use Rattle.sheets.specs.Sheet.{Configuration, Sheet}
 use Rattle.sheets.specs.WellFormed.{WellFormed}
 use Rattle.moves.specs.Orders.{Move}

@@ -22,7 +22,8 @@ use Rattle.sheets.specs.Sheet.{Sheet}
 use Rattle.moves.specs.Moves.{labels}
 use Rattle.move_laws.specs.LabelLaws.{label-constraint, label-makes-true, label-below, label-minimal}
 use Rattle.closure_table.specs.ClosureTable.{Closures}
-use Rattle.label_search.specs.FactsOutside.{Has, or-above, above-next, next-least, has-or}
+use Rattle.store_laws.specs.OutsideLaws.{or-above}
+use Rattle.label_search.specs.SetsAbove.{Has, above-next, next-least, has-or}
 use Rattle.label_search.specs.LabelOrder.{label-outside}
 use Rattle.label_tests.specs.LabelTests.{InsideAt, passesBy}
 use Rattle.label_search.specs.AskLabels.{Found, isNext}

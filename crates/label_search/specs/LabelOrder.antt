@@ -1,35 +1,21 @@
--- The labels of an ask ascend, are those of what the store lacks of the asked set, and are the closures of what they have
+-- The labels of an ask are those of what the store lacks of the asked set, and are the closures of what they have
 -- outside the store.
 use mathlib.Core.Path.{_≡_, subst}
 use mathlib.Core.Bool.{true}
 use mathlib.Core.List.{_∷_, List·Memᴰ}
-use Prim.Native.Nat.{ℕ, zero, suc, _^_, _<_}
+use Prim.Native.Nat.{ℕ, _^_, _<_}
 use native.Mathlib.Omega.{arith}
 use lib.Bits.{bitOr}
-use borrow.Author.Tests.{lt-ltb}
-use Rattle.lists.specs.Lists.{Ascends, none-left, then-rest}
-use Rattle.list_laws.specs.AscendingLaws.{select-ascends, ascends-unique}
-use Rattle.number_lists.specs.NumberLists.{numberOrder}
+use Rattle.list_laws.specs.AscendingLaws.{numberOrder, ascends-unique}
 use Rattle.stores.specs.FactSets.{Within}
 use Rattle.store_laws.specs.FactSetLaws.{within-trans, within-or-right, or-least, within-le}
 use Rattle.stores.specs.Stores.{Constraint, conclusions, closure, join}
 use Rattle.store_laws.specs.StoreLaws.{closure-least, closure-includes, closure-closed, closure-constraint, join-left, join-right}
 use Rattle.sheets.specs.Sheet.{Sheet}
-use Rattle.moves.specs.Moves.{countUp, isClosed, constraints, isMinimal, makesTrue, labels}
-use Rattle.move_laws.specs.LabelLaws.{mem-countUp-from, label-constraint, label-makes-true, label-below, label-minimal}
-use Rattle.label_search.specs.FactsOutside.{outside, or-outside, outside-within}
-
--- ---- the order
-countUp-ascends : (k b : ℕ) → Ascends (numberOrder .before) (countUp b k)
-countUp-ascends zero b = none-left
-countUp-ascends (suc k) b =
-    then-rest (λ (y : ℕ) (m : List·Memᴰ y (countUp (suc b) k)). lt-ltb b y (omega (arith, mem-countUp-from k (suc b) m))) (countUp-ascends k (suc b))
-
-pub labels-ascend : (sheet : Sheet) (d c : ℕ) → Ascends (numberOrder .before) (labels sheet d c)
-unfolding labels
-labels-ascend sheet d c =
-    select-ascends numberOrder (isMinimal (makesTrue sheet d c) (constraints sheet)) (constraints sheet)
-    (select-ascends numberOrder (isClosed sheet) (countUp 0 (2 ^ sheet .facts)) (countUp-ascends (2 ^ sheet .facts) 0))
+use Rattle.moves.specs.Moves.{constraints, labels}
+use Rattle.move_laws.specs.LabelLaws.{label-constraint, label-makes-true, label-below, label-minimal, labels-ascend}
+use Rattle.stores.specs.FactsOutside.{outside}
+use Rattle.store_laws.specs.OutsideLaws.{or-outside, outside-within}
 
 -- ---- the asked set
 -- where two asked sets are made true by the same constraints, a label of one is a label of the other

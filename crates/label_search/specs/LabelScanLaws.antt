@@ -11,19 +11,19 @@ use lib.Seq.{drop-cons, drop-set-add, take-suc-set, take-set-le, getD-set-same, 
 use lib.Pow.{pow-pos}
 use lib.Bits.{bitAnd, bitOr, or-lt, or-self}
 use Rattle.lists.specs.Lists.{arrange, Distinct}
-use Rattle.list_laws.specs.AscendingLaws.{arrange-ascends, arrange-keeps, arrange-only, ascends-unique}
+use Rattle.list_laws.specs.AscendingLaws.{arrange-ascends, arrange-keeps, arrange-only, ascends-unique, numberOrder}
 use Rattle.list_laws.specs.Counting.{distinct-length}
-use Rattle.number_lists.specs.NumberLists.{numberOrder, numbersIn}
+use Rattle.number_lists.specs.NumberLists.{numbersIn}
 use Rattle.number_lists.specs.Entered.{Sorted}
 use Rattle.store_laws.specs.FactSetLaws.{and-within}
 use Rattle.stores.specs.Stores.{conclusions}
 use Rattle.sheets.specs.Sheet.{Sheet}
 use Rattle.moves.specs.Moves.{labels}
-use Rattle.move_laws.specs.LabelLaws.{label-constraint, labels-few, labels-within}
+use Rattle.move_laws.specs.LabelLaws.{label-constraint, labels-few, labels-within, labels-ascend}
 use Rattle.closure_table.specs.ClosureTable.{Closures, closures-agree}
 use Rattle.list_laws.specs.Frames.{SameOutside, outside-same, outside-again, outside-wider, outside-set}
-use Rattle.label_search.specs.FactsOutside.{Has, has-or, or-above}
-use Rattle.label_search.specs.LabelOrder.{labels-ascend}
+use Rattle.store_laws.specs.OutsideLaws.{or-above}
+use Rattle.label_search.specs.SetsAbove.{Has, has-or}
 use Rattle.label_search.specs.AskLabels.{TableOf, LabelsAre, LabelRoom, part, isNext, Found, FoundBelow}
 use Rattle.label_search.specs.FoundLabelLaws.{found-none, found-next}
 

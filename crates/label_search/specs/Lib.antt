@@ -1,4 +1,4 @@
-pub mod FactsOutside
+pub mod SetsAbove
 pub mod LabelOrder
 pub mod AskLabels
 pub mod FoundLabelLaws

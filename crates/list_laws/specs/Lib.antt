@@ -12,3 +12,4 @@ pub mod ListPlaces
 pub mod PlacesPassed
 pub mod Halving
 pub mod RaisedNumbers
+pub mod ImageLaws

@@ -10,10 +10,11 @@ use lib.Pow.{pow-pos}
 use lib.Bits.{bitAnd, and-step, and-self, and-comm}
 use lib.ListN.{length}
 use lib.Dec.{eqb, leb}
-use borrow.Author.Tests.{eqb-true, eqb-false, eq-eqb, leb-true, leb-false, not-true}
+use borrow.Author.Tests.{eqb-true, eqb-false, eq-eqb, lt-ltb, leb-true, leb-false, not-true}
 use Rattle.list_laws.specs.TestLaws.{true-false, and-left, and-right, and-intro, not-passes}
-use Rattle.lists.specs.Lists.{select, any, Distinct, no-elements, one-more}
+use Rattle.lists.specs.Lists.{select, any, Ascends, none-left, then-rest, Distinct, no-elements, one-more}
 use Rattle.list_laws.specs.Members.{mem-select, select-mem, any-yes, any-no, mem-map}
+use Rattle.list_laws.specs.AscendingLaws.{numberOrder, select-ascends}
 use Rattle.list_laws.specs.Counting.{distinct-length, distinct-map-on}
 use Rattle.stores.specs.FactSets.{Within}
 use Rattle.store_laws.specs.FactSetLaws.{and-within, within-refl, within-trans, within-le}
@@ -50,6 +51,11 @@ pub countUp-distinct : (k b : ℕ) → Distinct (countUp b k)
 countUp-distinct zero b = no-elements
 countUp-distinct (suc k) b =
     one-more (λ (m : List·Memᴰ b (countUp (suc b) k)). omega (arith, mem-countUp-from k (suc b) m)) (countUp-distinct k (suc b))
+
+countUp-ascends : (k b : ℕ) → Ascends (numberOrder .before) (countUp b k)
+countUp-ascends zero b = none-left
+countUp-ascends (suc k) b =
+    then-rest (λ (y : ℕ) (m : List·Memᴰ y (countUp (suc b) k)). lt-ltb b y (omega (arith, mem-countUp-from k (suc b) m))) (countUp-ascends k (suc b))
 
 -- ---- lists without repeats
 -- what is selected from one is one
@@ -173,6 +179,12 @@ module _ (sheet : Sheet) where
     labels-distinct =
         distinct-select (isMinimal (makesTrue sheet d c) (constraints sheet)) (constraints sheet)
         (distinct-select (isClosed sheet) (countUp 0 (2 ^ sheet .facts)) (countUp-distinct (2 ^ sheet .facts) 0))
+
+    pub labels-ascend : Ascends (numberOrder .before) (labels sheet d c)
+    unfolding labels
+    labels-ascend =
+        select-ascends numberOrder (isMinimal (makesTrue sheet d c) (constraints sheet)) (constraints sheet)
+        (select-ascends numberOrder (isClosed sheet) (countUp 0 (2 ^ sheet .facts)) (countUp-ascends (2 ^ sheet .facts) 0))
 
     -- two labels that differ in the first fact at most are equal
     label-by-half : (a b : ℕ) → List·Memᴰ a (labels sheet d c) → List·Memᴰ b (labels sheet d c) → a / 2 ≡ b / 2 → a ≡ b

@@ -1,5 +1,5 @@
--- Document 01, "Configurations and moves": labels, labelled moves, reductions. The paper's rules LR1 to LR4 (and R1 to R4
--- for reductions), up to the order of threads and stop.
+-- Document 01, "Configurations and moves", with the least store of document 02, card 2, in the place of label 0: labels, labelled moves,
+-- reductions. The paper's rules LR1 to LR4 (and R1 to R4 for reductions), up to the order of threads and stop.
 use mathlib.Core.Bool.{Bool, not, _&&_}
 use mathlib.Core.List.{List, [], _∷_, _++_, map, List·Memᴰ}
 use Prim.Native.Nat.{ℕ, zero, suc, _^_}
@@ -45,7 +45,7 @@ pub record Step : Type 0 where
 abbrev pub beside : List ℕ → Step → Step
 beside ts m = record { label = m .label; store = m .store; threads = m .threads ++ ts }
 
--- The steps of a node at store d, where `inner` gives those of the nodes it is made of. tell: the least label, the thread
+-- The steps of a node at store d, where `inner` gives those of the nodes it is made of. tell: the least store as label, the thread
 -- gone (LR1). ask: one step for each label (LR2). both: one part moves and the other is opened beside it (LR3). either: the
 -- moves of each of its nodes, the other dropped (LR4).
 abbrev pub stepsOf : Sheet → ℕ → (ℕ → List Step) → Node → List Step

@@ -11,7 +11,8 @@ use Rattle.list_laws.specs.Tabulate.{tabulate, tabulate-next, tabulate-length}
 use Rattle.list_laws.specs.TabulateLaws.{part-tabulate, mem-tabulate, tabulate-mem, ascends-at}
 use Rattle.lists.specs.Lists.{Ascends, none-left}
 use Rattle.list_laws.specs.Frames.{SameOutside, part-same, outside-between}
-use Rattle.number_lists.specs.NumberLists.{numberOrder, numbersIn}
+use Rattle.list_laws.specs.AscendingLaws.{numberOrder}
+use Rattle.number_lists.specs.NumberLists.{numbersIn}
 
 -- the empty part has no number
 pub numbers-none : (w : List ℕ) (from : ℕ) → numbersIn w from from ≡ []

@@ -3,21 +3,8 @@ use mathlib.Core.Path.{_≡_}
 use mathlib.Core.Bool.{Bool, true, false}
 use mathlib.Core.List.{List, List·Memᴰ}
 use Prim.Native.Nat.{ℕ, _-_, _≤_, _<_}
-use native.Mathlib.Omega.{arith}
 use lib.ListN.{getD, take, drop}
-use lib.Dec.{ltb}
-use borrow.Author.Tests.{ltb-true, ltb-false, lt-ltb}
-use Rattle.list_laws.specs.AscendingLaws.{Order}
 use Rattle.list_laws.specs.Halving.{Halving}
-
--- numbers by their size
-abbrev pub numberOrder : Order ℕ
-numberOrder = record {
-  before = ltb;
-  irreflexive = λ a h. omega (arith, ltb-true a a h);
-  transitive = λ a b c h k. lt-ltb a c (omega (arith, ltb-true a b h, ltb-true b c k));
-  total = λ a b h k. omega (arith, ltb-false a b h, ltb-false b a k);
-}
 
 -- the numbers of a slice at the places from `from` up to `end`
 unfoldable pub numbersIn : List ℕ → ℕ → ℕ → List ℕ

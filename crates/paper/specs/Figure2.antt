@@ -21,7 +21,7 @@ use Rattle.lists.specs.Lists.{select}
 use Rattle.stores.specs.Stores.{closure, passes, pass, conclusions}
 use Rattle.sheets.specs.Sheet.{tell, ask, either, Configuration, Sheet, openWithin}
 use Rattle.sheets.specs.WellFormed.{WellFormed, Admissible}
-use Rattle.sheet_reading.specs.Reading.{got, recordsFrom, countAt, setAt, nameBytes, nameAt, namesFrom, factsAt, premiseAt, ruleAt, rulesAt, kindAt, firstAt, secondAt, nodeAt, nodesAt, threadAt, threadsFrom, startAt, startsAt, readSheet}
+use Rattle.sheet_reading.specs.Reading.{got, recordsFrom, countAt, setAt, nameBytes, nameAt, namesFrom, factsAt, ruleAt, rulesAt, kindAt, firstAt, secondAt, nodeAt, nodesAt, threadAt, threadsFrom, startAt, startsAt, readSheet}
 use Rattle.sheet_laws.specs.ReadingLaws.{read-admissible}
 use Rattle.moves.specs.Moves.{labels, stepsWithin, moves}
 use Rattle.comparison.specs.CallLimits.{limits}
@@ -66,7 +66,7 @@ sheetOfPaper =
     }
 
 pub paper-reads : readSheet bytesOfPaper ≡ got sheetOfPaper (length bytesOfPaper)
-unfolding readSheet recordsFrom countAt setAt nameBytes nameAt namesFrom factsAt premiseAt ruleAt rulesAt kindAt firstAt secondAt nodeAt nodesAt threadAt threadsFrom startAt startsAt openWithin closure passes pass conclusions
+unfolding readSheet recordsFrom countAt setAt nameBytes nameAt namesFrom factsAt ruleAt rulesAt kindAt firstAt secondAt nodeAt nodesAt threadAt threadsFrom startAt startsAt openWithin closure passes pass conclusions
 paper-reads = refl
 
 pub paper-admissible : Admissible sheetOfPaper

@@ -9,10 +9,8 @@ pub const UNPRINTABLE: u8 = 3;
 
 pub const MANY_RULES: u8 = 4;
 
-// A set with an absent fact; an empty premise.
+// A set with an absent fact. 6 is no longer given.
 pub const ABSENT_FACT: u8 = 5;
-
-pub const EMPTY_PREMISE: u8 = 6;
 
 // No nodes or too many; a kind that is none; a node number that is not allowed there; an unused field that is not 0.
 pub const WRONG_NODES: u8 = 7;

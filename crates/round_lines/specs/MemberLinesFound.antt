@@ -11,10 +11,10 @@ use lib.Dec.{eqb, ltb}
 use borrow.Author.Tests.{eqb-true, eqb-false, ltb-true, ltb-false}
 use Rattle.list_laws.specs.TestLaws.{true-false, Tested, tested, passes, fails}
 use Rattle.lists.specs.Lists.{Ascends, enter}
-use Rattle.list_laws.specs.AscendingLaws.{ascends-unique, enter-in, enter-keeps, enter-only, enter-ascends}
+use Rattle.list_laws.specs.AscendingLaws.{ascends-unique, enter-in, enter-keeps, enter-only, enter-ascends, numberOrder}
 use Rattle.list_laws.specs.Frames.{outside-set}
 use Rattle.list_laws.specs.ListPlaces.{getD-in}
-use Rattle.number_lists.specs.NumberLists.{numberOrder, numbersIn}
+use Rattle.number_lists.specs.NumberLists.{numbersIn}
 use Rattle.number_lists.specs.NumberLaws.{numbers-none, numbers-none-ascend, numbers-outside}
 use Rattle.number_lists.specs.declared.Put.{Put}
 use Rattle.number_lists.specs.declared.Put.the-variants.{Until, Full}

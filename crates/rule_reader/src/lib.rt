@@ -16,7 +16,7 @@ fn rules_from(s: &[u8], facts: u16, n: u16, at: usize) -> RulesRead
     let mut p = at;
     let mut i: u16 = 0;
     while i < n {
-        let x = sheet_fields::premise_at(s, facts, p);
+        let x = sheet_fields::set_at(s, facts, p);
         let Section::Got(premise, q) = x else {
             return RulesRead { answer: x, rules };
         };

@@ -23,7 +23,7 @@ use Rattle.refinement_laws.specs.StableRounds.{member-of}
 use Rattle.comparison.specs.SheetTransitions.{transitions}
 use Rattle.comparison_laws.specs.SheetMoves.{lawful}
 use Rattle.comparison.specs.Promise.{MemberMove, PassesLimit, many-members, many-threads, many-moves}
-use Rattle.number_lists.specs.NumberLists.{numberOrder}
+use Rattle.list_laws.specs.AscendingLaws.{numberOrder}
 use Rattle.number_lists.specs.NumberLaws.{numbers-length}
 use Rattle.member_table.specs.MemberTable.{memberIn}
 use Rattle.member_table.specs.MemberLaws.{member-id, members-distinct}

@@ -14,7 +14,8 @@ use Rattle.list_laws.specs.Tabulate.{tabulate, tabulate-same}
 use Rattle.lists.specs.Lists.{Distinct, no-elements, one-more, arrange}
 use Rattle.list_laws.specs.Counting.{ascends-distinct}
 use Rattle.list_laws.specs.Frames.{SameOutside, outside-same, outside-again, outside-wider}
-use Rattle.number_lists.specs.NumberLists.{numberOrder, numbersIn}
+use Rattle.list_laws.specs.AscendingLaws.{numberOrder}
+use Rattle.number_lists.specs.NumberLists.{numbersIn}
 use Rattle.number_lists.specs.NumberLaws.{numbers-tabulate, numbers-at, numbers-outside}
 use Rattle.number_lists.specs.Entered.{Sorted}
 use Rattle.set_order.specs.OrderedSet.{spanFirst, spanTotal, spanNumbers}

@@ -7,7 +7,8 @@ use lib.ListN.{length, getD}
 use Rattle.lists.specs.Lists.{Ascends}
 use Rattle.list_laws.specs.Frames.{SameOutside}
 use Rattle.moves.specs.Orders.{Move}
-use Rattle.number_lists.specs.NumberLists.{numberOrder, numbersIn}
+use Rattle.list_laws.specs.AscendingLaws.{numberOrder}
+use Rattle.number_lists.specs.NumberLists.{numbersIn}
 use Rattle.packing.specs.Packing.{Packed}
 use Rattle.member_table.specs.MemberTable.{idIn, placedIn, Kept}
 use Rattle.collected_moves.specs.CollectedMoves.{memberPart, moveIn}

@@ -10,13 +10,12 @@ use borrow.Author.Tests.{ltb-true, lt-ltb, eqb-true, eqb-false}
 use Rattle.list_laws.specs.Members.{mem-map}
 use Rattle.list_laws.specs.Tabulate.{tabulate-same}
 use Rattle.list_laws.specs.TabulateLaws.{ascends-at}
-use Rattle.list_laws.specs.AscendingLaws.{Order, ascends-head, ascends-tail, ascends-unique, arrange-ascends}
+use Rattle.list_laws.specs.AscendingLaws.{Order, ascends-head, ascends-tail, ascends-unique, arrange-ascends, numberOrder}
 use Rattle.lists.specs.Lists.{Ascends, none-left, then-rest}
 use Rattle.sheets.specs.Sheet.{Configuration, Sheet}
 use Rattle.moves.specs.Orders.{Move, configurationBefore, moveBefore}
 use Rattle.move_laws.specs.OrderLaws.{configurationOrder, moveOrder}
 use Rattle.moves.specs.Moves.{moves, movesFrom}
-use Rattle.number_lists.specs.NumberLists.{numberOrder}
 use Rattle.member_table.specs.MemberTable.{memberIn, idIn, placedIn, orderedIn}
 use Rattle.collected_moves.specs.CollectedMoves.{memberPart}
 use Rattle.work_layout.specs.SetLayout.{memberAt, moveNumbersAt, moveFrom, movesHeldAt, SetHeld}

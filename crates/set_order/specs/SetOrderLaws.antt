@@ -8,11 +8,11 @@ use lib.ListN.{getD, drop}
 use lib.Seq.{getD-take, getD-drop}
 use Rattle.list_laws.specs.Members.{mem-map, map-mem}
 use Rattle.lists.specs.Lists.{Ascends, arrange}
-use Rattle.list_laws.specs.AscendingLaws.{arrange-ascends, arrange-keeps, arrange-only}
+use Rattle.list_laws.specs.AscendingLaws.{arrange-ascends, arrange-keeps, arrange-only, numberOrder}
 use Rattle.list_laws.specs.Frames.{SameOutside, outside-again, outside-wider}
 use Rattle.sheets.specs.Sheet.{Configuration}
 use Rattle.moves.specs.Orders.{Move}
-use Rattle.number_lists.specs.NumberLists.{numberOrder, numbersIn}
+use Rattle.number_lists.specs.NumberLists.{numbersIn}
 use Rattle.number_lists.specs.NumberLaws.{numbers-outside}
 use Rattle.packing.specs.Packing.{unpacked, Packed}
 use Rattle.member_table.specs.MemberTable.{memberIn, idIn, placedIn, Kept}

@@ -6,7 +6,8 @@ use Prim.Native.Nat.{ℕ, _+_, _*_, _-_, _/_, _%_, _≤_, _<_}
 use lib.ListN.{length, getD}
 use Rattle.lists.specs.Lists.{Ascends, arrange}
 use Rattle.list_laws.specs.Frames.{SameOutside}
-use Rattle.number_lists.specs.NumberLists.{numberOrder, numbersIn}
+use Rattle.list_laws.specs.AscendingLaws.{numberOrder}
+use Rattle.number_lists.specs.NumberLists.{numbersIn}
 use Rattle.member_table.specs.MemberTable.{idIn, Kept}
 use Rattle.collected_moves.specs.CollectedMoves.{memberPart}
 use Rattle.set_order.specs.OrderedSet.{spanFirst, spanTotal, spanNumbers, Discovered, Arranged}

@@ -15,12 +15,12 @@ use Rattle.stores.specs.Stores.{Rule, Constraint, closure}
 use Rattle.store_laws.specs.StoreLaws.{closure-same}
 use Rattle.sheets.specs.SheetLimits.{maxFacts, maxNodes, maxThreads, maxKind, nameLength, nodeLength}
 use Rattle.sheets.specs.Sheet.{Node, stop, tell, ask, both, either, Configuration, nodeOf, opened, openedAll}
-use Rattle.sheets.specs.SheetBytes.{Field, threadCount, set, premise, kind, thread, width, wordBytes, Printable, FieldIs, NameIs, SectionIs, RuleIs, KindIs, is-stop, is-tell, is-ask, is-both, is-either, NodeFieldsAre, fields, threadsOf, NodeIs, ThreadIs, StartIs, start}
+use Rattle.sheets.specs.SheetBytes.{Field, threadCount, set, kind, thread, width, wordBytes, Printable, FieldIs, NameIs, SectionIs, RuleIs, KindIs, is-stop, is-tell, is-ask, is-both, is-either, NodeFieldsAre, fields, threadsOf, NodeIs, ThreadIs, StartIs, start}
 use Rattle.sheets.specs.WellFormed.{Process, RuleFits, NodeFits}
 use Rattle.sheet_laws.specs.Ranks.{OfParts, Part, Ranked, rankOf, parts-map}
 use Rattle.sheet_laws.specs.OpeningLaws.{opening-prefix, opened-inside}
 use Rattle.sheet_encoder.specs.Encoder.{ruleBytes, nodeBytes, startBytes}
-use Rattle.sheet_encoder.specs.StandingBytes.{Stands, stands-front, stands-rest, WordFits, byte-field, word-field, threads-fit, kind-fits, thread-fits, set-fits, premise-fits, below-fits, unused-fits, section-stands}
+use Rattle.sheet_encoder.specs.StandingBytes.{Stands, stands-front, stands-rest, WordFits, byte-field, word-field, threads-fit, kind-fits, thread-fits, set-fits, below-fits, unused-fits, section-stands}
 
 -- ---- names
 pub name-stands : {s : List ℕ} {at : ℕ} (name : List ℕ) → length name ≡ nameLength → ((i : ℕ) → i < nameLength → Printable (getD name i 0))
@@ -37,11 +37,11 @@ name-stands {s} {at} name long printable h =
 pub rule-stands : {facts n : ℕ} → facts ≤ maxFacts → {s : List ℕ} {before : List Rule} {at : ℕ} (r : Rule) → RuleFits facts r → Stands s at (ruleBytes r)
     → RuleIs facts s n before at r (at + length (ruleBytes r))
 rule-stands {facts} few {s} {at = at} r fit h =
-    let second : ℕ = at + width (premise facts) in
+    let second : ℕ = at + width (set facts) in
     let z : second + width (set facts) ≡ at + length (ruleBytes r) = omega arith in
     record {
       second = second;
-      premise-field = word-field (premise facts) (premise-fits few (fit .premise) (fit .some-premise)) (stands-front (wordBytes (r .premise)) (wordBytes (r .conclusion)) h);
+      premise-field = word-field (set facts) (set-fits few (fit .premise)) (stands-front (wordBytes (r .premise)) (wordBytes (r .conclusion)) h);
       conclusion-field = subst (λ (k : ℕ). FieldIs (set facts) s second (r .conclusion) k) z
           (word-field (set facts) (set-fits few (fit .conclusion)) (stands-rest (wordBytes (r .premise)) (wordBytes (r .conclusion)) h));
     }

@@ -8,7 +8,7 @@ use lib.Pow.{pow-mono}
 use lib.Seq.{getD-append-add}
 use Rattle.lists.specs.Lists.{concatMap}
 use Rattle.sheets.specs.SheetLimits.{maxFacts, maxRules, minNodes, maxNodes, minStarts, maxStarts, maxThreads, maxKind}
-use Rattle.sheets.specs.SheetBytes.{Field, factCount, ruleCount, nodeCount, startCount, threadCount, set, premise, kind, unused, nodeBelow, thread, width, word, wordBytes, numberIn, Wrong, many-facts, many-rules, absent-fact, absent-in-premise, empty-premise, few-nodes, many-nodes, no-kind, node-not-below, no-such-thread, not-zero, few-starts, many-starts, many-threads, FieldIs, Right, RecordsAre, none, one-more, SectionIs}
+use Rattle.sheets.specs.SheetBytes.{Field, factCount, ruleCount, nodeCount, startCount, threadCount, set, kind, unused, nodeBelow, thread, width, word, wordBytes, numberIn, Wrong, many-facts, many-rules, absent-fact, few-nodes, many-nodes, no-kind, node-not-below, no-such-thread, not-zero, few-starts, many-starts, many-threads, FieldIs, Right, RecordsAre, none, one-more, SectionIs}
 use Rattle.sheet_encoder.specs.Encoder.{sectionBytes}
 
 -- the bytes xs stand in s from a place on
@@ -136,13 +136,6 @@ module _ {v : ℕ} where
       where
         right : NotWrong (set facts) v
         right number (absent-fact l) = omega arith
-
-    pub premise-fits : (v ≡ 0 → ⊥) → WordFits (premise facts) v
-    premise-fits n = record { wide = refl; number = λ s at. refl; small = set-small; right = right }
-      where
-        right : NotWrong (premise facts) v
-        right number (absent-in-premise l) = omega arith
-        right number (empty-premise l e) = n e
 
   pub below-fits : {bound : ℕ} → bound ≤ maxNodes → v < bound → WordFits (nodeBelow bound) v
   below-fits {bound} few h = record { wide = refl; number = λ s at. refl; small = omega arith; right = right }

@@ -6,7 +6,7 @@ ghost use Prim.Native.Nat.{_+_, _≤_, _<_};
 ghost use lib.ListN.{length};
 ghost use Rattle.sheet_types.specs.HeldSheet.{answer};
 ghost use Rattle.sheets.specs.SheetLimits.{maxFacts, nameLength};
-ghost use Rattle.sheet_reading.specs.Reading.{byteAt, wordAt, countAt, setAt, premiseAt, kindAt, firstAt, secondAt, threadAt, printable, nameBytes, nameAt, namesFrom, factsAt};
+ghost use Rattle.sheet_reading.specs.Reading.{byteAt, wordAt, countAt, setAt, kindAt, firstAt, secondAt, threadAt, printable, nameBytes, nameAt, namesFrom, factsAt};
 ghost use Rattle.sheet_laws.specs.NodeFields.{unusedAt, belowAt};
 
 const NAME_LENGTH: usize = 8;
@@ -68,21 +68,6 @@ pub fn set_at(s: &[u8], facts: u16, at: usize) -> Section
     };
     if set >> facts != 0 {
         return Section::Refused(refusals::ABSENT_FACT, at);
-    }
-    Section::Got(set, next)
-}
-
-// A rule's premise: a set that is not empty.
-pub fn premise_at(s: &[u8], facts: u16, at: usize) -> Section
-    requires { ⌜ (at ≤ length (now s)) × (facts ≤ maxFacts) ⌝ }
-    ensures { λ r. ⌜ answer r ≡ premiseAt facts (now (s .entry)) at ⌝ }
-{
-    let r = set_at(s, facts, at);
-    let Section::Got(set, next) = r else {
-        return r;
-    };
-    if set == 0 {
-        return Section::Refused(refusals::EMPTY_PREMISE, at);
     }
     Section::Got(set, next)
 }

@@ -11,7 +11,7 @@ use borrow.Author.Tests.{ltb-false, leb-false, eqb-true, eqb-false, not-false, n
 use Rattle.list_laws.specs.TestLaws.{or-false}
 use Rattle.sheets.specs.SheetLimits.{maxFacts, nameLength, maxKind}
 use Rattle.sheets.specs.SheetBytes.{word}
-use Rattle.sheet_reading.specs.Reading.{got, refused, refusedIf, byteAt, wordAt, countAt, setAt, premiseAt, kindAt, firstAt, secondAt, threadAt, printable, nameBytes, nameAt, namesFrom, factsAt}
+use Rattle.sheet_reading.specs.Reading.{got, refused, refusedIf, byteAt, wordAt, countAt, setAt, kindAt, firstAt, secondAt, threadAt, printable, nameBytes, nameAt, namesFrom, factsAt}
 use Rattle.sheet_laws.specs.NodeFields.{unusedAt, belowAt}
 use Rattle.sheet_laws.specs.Gets.{Gets, gets-less, got-gets, checked-gets, then-gets, then-checked-gets}
 
@@ -48,10 +48,6 @@ module _ (s : List ℕ) (at : ℕ) where
   pub set-gets : (facts : ℕ) → Gets (λ c next. Taken s at 2 next × (c < 2 ^ facts)) (setAt facts s at)
   unfolding setAt
   set-gets facts = then-checked-gets _ (λ c. leb (2 ^ facts) c) 5 at word-gets (λ c next t e. (t, leb-false _ _ e))
-
-  pub premise-gets : (facts : ℕ) → Gets (λ c next. Taken s at 2 next × (c < 2 ^ facts) × (c ≡ 0 → ⊥)) (premiseAt facts s at)
-  unfolding premiseAt
-  premise-gets facts = then-checked-gets _ (λ c. eqb c 0) 6 at (set-gets facts) (λ c next t e. (t .0, t .1, eqb-false _ _ e))
 
   pub kind-gets : Gets (λ kind next. Taken s at 1 next × (kind ≤ maxKind)) (kindAt s at)
   unfolding kindAt

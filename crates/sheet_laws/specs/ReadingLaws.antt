@@ -8,8 +8,7 @@ use lib.ListN.{length, List·getD-eq-default}
 use lib.Dec.{ltb}
 use borrow.Author.Tests.{ltb-true, ltb-false, lt-ltb, le-ltb, le-leb, lt-leb}
 use Rattle.list_laws.specs.TestLaws.{Tested, passes, fails, tested}
-use Rattle.stores.specs.Stores.{Rule, leastStore}
-use Rattle.store_laws.specs.StoreLaws.{least-store-empty}
+use Rattle.stores.specs.Stores.{Rule}
 use Rattle.sheets.specs.SheetLimits.{longestSheet}
 use Rattle.sheets.specs.Sheet.{Node, stop, Configuration, Sheet, nodeOf}
 use Rattle.sheets.specs.SheetBytes.{SheetIs}
@@ -133,7 +132,3 @@ well-formed-ranked sheet w = record { parts = λ k. go k (tested (ltb k (length 
         (fits-lower (sheet .facts) (sheet .rules) (length (sheet .nodes)) k (nodeOf (sheet .nodes) k) (w .nodes-fit k l))
     go k (fails t) =
         rw (List·getD-eq-default (sheet .nodes) stop {n = k} (ltb-false k (length (sheet .nodes)) t)) tt
-
--- the empty set, store 0, is the least store
-pub well-formed-least : (sheet : Sheet) → WellFormed sheet → leastStore (sheet .rules) ≡ 0
-well-formed-least sheet w = least-store-empty (sheet .rules) (λ r m. w .rules-fit r m .some-premise)

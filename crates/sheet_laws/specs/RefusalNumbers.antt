@@ -1,20 +1,32 @@
--- Every refusal by the sheet or the choice has a number from 1 to 15.
+-- Every refusal by the sheet or the choice has a number from 1 to 15, and none has 6, which document 02, card 2, leaves unused.
 use mathlib.Core.Path.{_≡_, refl, subst}
-use mathlib.Core.Bool.{Bool, true, false, cond, not, _||_}
+use mathlib.Core.Bool.{Bool, true, false, cond, not, _&&_, _||_}
 use mathlib.Core.List.{List, [], _∷_, _++_}
 use Prim.Native.Nat.{ℕ, zero, suc, _+_, _^_, _≤_}
 use native.Mathlib.Omega.{arith}
 use lib.ListN.{length, getD}
 use lib.Dec.{eqb, leb, ltb}
+use borrow.Author.Tests.{leb-true, eqb-false, not-true}
+use Rattle.list_laws.specs.TestLaws.{and-left, and-right}
 use Rattle.stores.specs.Stores.{Rule, closure}
 use Rattle.sheets.specs.SheetLimits.{maxFacts, maxRules, minNodes, maxNodes, minStarts, maxStarts, maxThreads, nameLength, maxKind}
 use Rattle.sheets.specs.Sheet.{Node, Configuration, Sheet, opened, openedAll}
-use Rattle.sheet_reading.specs.Reading.{Reading, got, refused, andThen, refusedIf, recordsFrom, byteAt, wordAt, countAt, setAt, below, unused, printable, nameBytes, nameAt, namesFrom, factsAt, premiseAt, ruleAt, rulesAt, kindAt, firstAt, secondAt, nodeFrom, nodeAt, nodesAt, threadAt, threadsFrom, startAt, startsAt, readSheet, readChoice}
+use Rattle.sheet_reading.specs.Reading.{Reading, got, refused, andThen, refusedIf, recordsFrom, byteAt, wordAt, countAt, setAt, below, unused, printable, nameBytes, nameAt, namesFrom, factsAt, ruleAt, rulesAt, kindAt, firstAt, secondAt, nodeFrom, nodeAt, nodesAt, threadAt, threadsFrom, startAt, startsAt, readSheet, readChoice}
 
 -- a number of the table
 pub record Numbered (number : ℕ) : Type 0 where
   pub above : 1 ≤ number
   pub within : number ≤ 15
+  pub used : number ≡ 6 → ⊥
+
+numbered : (number : ℕ) → (leb 1 number && (leb number 15 && not (eqb number 6))) ≡ true → Numbered number
+numbered number h =
+    let later = and-right (leb 1 number) (leb number 15 && not (eqb number 6)) h in
+    record {
+      above = leb-true 1 number (and-left (leb 1 number) (leb number 15 && not (eqb number 6)) h);
+      within = leb-true number 15 (and-left (leb number 15) (not (eqb number 6)) later);
+      used = eqb-false number 6 (not-true (eqb number 6) (and-right (leb number 15) (not (eqb number 6)) later));
+    }
 
 -- a value, or a refusal with such a number
 pub data Low {A : Type 0} : Reading A → Type 0 where
@@ -40,10 +52,10 @@ low-records item h zero read at = low-got read at
 low-records item h (suc n) read at = low-then (h read at) (λ r next. low-records item h n (read ++ (r ∷ [])) next)
 
 low-byte : (s : List ℕ) (at : ℕ) → Low (byteAt s at)
-low-byte s at = low-if (ltb (length s) (at + 1)) 1 (length s) (record { above = omega arith; within = omega arith }) (low-got (getD s at 0) (at + 1))
+low-byte s at = low-if (ltb (length s) (at + 1)) 1 (length s) (numbered _ refl) (low-got (getD s at 0) (at + 1))
 
 low-word : (s : List ℕ) (at : ℕ) → Low (wordAt s at)
-low-word s at = low-if (ltb (length s) (at + 2)) 1 (length s) (record { above = omega arith; within = omega arith }) (low-got _ (at + 2))
+low-word s at = low-if (ltb (length s) (at + 2)) 1 (length s) (numbered _ refl) (low-got _ (at + 2))
 
 low-count : (low high number : ℕ) → Numbered number → (s : List ℕ) (at : ℕ) → Low (countAt low high number s at)
 unfolding countAt
@@ -51,22 +63,22 @@ low-count low high number h s at = low-then (low-byte s at) (λ n next. low-if (
 
 low-set : (facts : ℕ) (s : List ℕ) (at : ℕ) → Low (setAt facts s at)
 unfolding setAt
-low-set facts s at = low-then (low-word s at) (λ c next. low-if (leb (2 ^ facts) c) 5 at (record { above = omega arith; within = omega arith }) (low-got c next))
+low-set facts s at = low-then (low-word s at) (λ c next. low-if (leb (2 ^ facts) c) 5 at (numbered _ refl) (low-got c next))
 
 low-below : (bound k at next : ℕ) → Low (below bound k at next)
-low-below bound k at next = low-if (leb bound k) 9 at (record { above = omega arith; within = omega arith }) (low-got k next)
+low-below bound k at next = low-if (leb bound k) 9 at (numbered _ refl) (low-got k next)
 
 low-unused : (x at next : ℕ) → Low (unused x at next)
-low-unused x at next = low-if (not (eqb x 0)) 10 at (record { above = omega arith; within = omega arith }) (low-got x next)
+low-unused x at next = low-if (not (eqb x 0)) 10 at (numbered _ refl) (low-got x next)
 
 low-bytes : (n : ℕ) (s : List ℕ) (at : ℕ) → Low (nameBytes n s at)
 unfolding nameBytes
 low-bytes zero s at = low-got nameLength at
-low-bytes (suc n) s at = low-if (not (printable (getD s at 0))) 3 at (record { above = omega arith; within = omega arith }) (low-bytes n s (at + 1))
+low-bytes (suc n) s at = low-if (not (printable (getD s at 0))) 3 at (numbered _ refl) (low-bytes n s (at + 1))
 
 low-name : (s : List ℕ) (at : ℕ) → Low (nameAt s at)
 unfolding nameAt
-low-name s at = low-if (ltb (length s) (at + nameLength)) 1 (length s) (record { above = omega arith; within = omega arith }) (low-bytes nameLength s at)
+low-name s at = low-if (ltb (length s) (at + nameLength)) 1 (length s) (numbered _ refl) (low-bytes nameLength s at)
 
 low-names : (n k : ℕ) (s : List ℕ) (at : ℕ) → Low (namesFrom n k s at)
 unfolding namesFrom
@@ -75,25 +87,21 @@ low-names (suc n) k s at = low-then (low-name s at) (λ name next. low-names n k
 
 low-facts : (s : List ℕ) (at : ℕ) → Low (factsAt s at)
 unfolding factsAt
-low-facts s at = low-then (low-count 0 maxFacts 2 (record { above = omega arith; within = omega arith }) s at) (λ n next. low-names n n s next)
-
-low-premise : (facts : ℕ) (s : List ℕ) (at : ℕ) → Low (premiseAt facts s at)
-unfolding premiseAt
-low-premise facts s at = low-then (low-set facts s at) (λ c next. low-if (eqb c 0) 6 at (record { above = omega arith; within = omega arith }) (low-got c next))
+low-facts s at = low-then (low-count 0 maxFacts 2 (numbered _ refl) s at) (λ n next. low-names n n s next)
 
 low-rule : (facts : ℕ) (s : List ℕ) (at : ℕ) → Low (ruleAt facts s at)
 unfolding ruleAt
 low-rule facts s at =
-    low-then (low-premise facts s at) (λ p next. low-then (low-set facts s next) (λ c end. low-got (record { premise = p; conclusion = c }) end))
+    low-then (low-set facts s at) (λ p next. low-then (low-set facts s next) (λ c end. low-got (record { premise = p; conclusion = c }) end))
 
 low-rules : (facts : ℕ) (s : List ℕ) (at : ℕ) → Low (rulesAt facts s at)
 unfolding rulesAt
 low-rules facts s at =
-    low-then (low-count 0 maxRules 4 (record { above = omega arith; within = omega arith }) s at) (λ n next. low-records (λ read p. ruleAt facts s p) (λ read p. low-rule facts s p) n [] next)
+    low-then (low-count 0 maxRules 4 (numbered _ refl) s at) (λ n next. low-records (λ read p. ruleAt facts s p) (λ read p. low-rule facts s p) n [] next)
 
 low-kind : (s : List ℕ) (at : ℕ) → Low (kindAt s at)
 unfolding kindAt
-low-kind s at = low-then (low-byte s at) (λ k next. low-if (ltb maxKind k) 8 at (record { above = omega arith; within = omega arith }) (low-got k next))
+low-kind s at = low-then (low-byte s at) (λ k next. low-if (ltb maxKind k) 8 at (numbered _ refl) (low-got k next))
 
 low-first : (kind facts number : ℕ) (s : List ℕ) (at : ℕ) → Low (firstAt kind facts number s at)
 unfolding firstAt
@@ -114,13 +122,13 @@ low-node facts rules nodes s read at =
     low-then (low-kind s at) (λ kind p.
     low-then (low-first kind facts (length read) s p) (λ first q.
     low-then (low-second kind nodes (length read) s q) (λ second next.
-    low-if (ltb maxThreads (length (opened (read ++ (nodeFrom rules kind first second ∷ [])) (length read)))) 15 at (record { above = omega arith; within = omega arith })
+    low-if (ltb maxThreads (length (opened (read ++ (nodeFrom rules kind first second ∷ [])) (length read)))) 15 at (numbered _ refl)
     (low-got (nodeFrom rules kind first second) next))))
 
 low-nodes : (facts : ℕ) (rules : List Rule) (s : List ℕ) (at : ℕ) → Low (nodesAt facts rules s at)
 unfolding nodesAt
 low-nodes facts rules s at =
-    low-then (low-count minNodes maxNodes 7 (record { above = omega arith; within = omega arith }) s at)
+    low-then (low-count minNodes maxNodes 7 (numbered _ refl) s at)
     (λ n next. low-records (nodeAt facts rules n s) (λ read p. low-node facts rules n s read p) n [] next)
 
 low-thread : (nodes : ℕ) (s : List ℕ) (at : ℕ) → Low (threadAt nodes s at)
@@ -135,15 +143,15 @@ low-start : (facts : ℕ) (rules : List Rule) (nodes : List Node) (s : List ℕ)
 unfolding startAt
 low-start facts rules nodes s at =
     low-then (low-set facts s at) (λ c p.
-    low-then (low-count 0 maxThreads 12 (record { above = omega arith; within = omega arith }) s p) (λ n q.
+    low-then (low-count 0 maxThreads 12 (numbered _ refl) s p) (λ n q.
     low-then (low-threads n (length nodes) s q) (λ ks next.
-    low-if (ltb maxThreads (length (openedAll nodes ks))) 12 p (record { above = omega arith; within = omega arith })
+    low-if (ltb maxThreads (length (openedAll nodes ks))) 12 p (numbered _ refl)
     (low-got (record { store = closure rules c; threads = openedAll nodes ks }) next))))
 
 low-starts : (facts : ℕ) (rules : List Rule) (nodes : List Node) (s : List ℕ) (at : ℕ) → Low (startsAt facts rules nodes s at)
 unfolding startsAt
 low-starts facts rules nodes s at =
-    low-then (low-count minStarts maxStarts 11 (record { above = omega arith; within = omega arith }) s at)
+    low-then (low-count minStarts maxStarts 11 (numbered _ refl) s at)
     (λ n next. low-records (λ read p. startAt facts rules nodes s p) (λ read p. low-start facts rules nodes s p) n [] next)
 
 low-sheet : (s : List ℕ) → Low (readSheet s)
@@ -153,14 +161,14 @@ low-sheet s =
     low-then (low-rules facts s p) (λ rules q.
     low-then (low-nodes facts rules s q) (λ nodes t.
     low-then (low-starts facts rules nodes s t) (λ starts end.
-    low-if (ltb end (length s)) 13 end (record { above = omega arith; within = omega arith }) (low-got (record { facts = facts; rules = rules; nodes = nodes; starts = starts }) end)))))
+    low-if (ltb end (length s)) 13 end (numbered _ refl) (low-got (record { facts = facts; rules = rules; nodes = nodes; starts = starts }) end)))))
 
 low-choice : (s : List ℕ) (left right : ℕ) → Low (readChoice s left right)
 unfolding readChoice
 low-choice s left right =
     low-then (low-sheet s) (λ sheet end.
-    low-if (leb (length (sheet .starts)) left) 14 0 (record { above = omega arith; within = omega arith })
-    (low-if (leb (length (sheet .starts)) right) 14 1 (record { above = omega arith; within = omega arith }) (low-got sheet end)))
+    low-if (leb (length (sheet .starts)) left) 14 0 (numbered _ refl)
+    (low-if (leb (length (sheet .starts)) right) 14 1 (numbered _ refl) (low-got sheet end)))
 
 refused-low : {m : Reading Sheet} {number place : ℕ} → Low m → m ≡ refused number place → Numbered number
 refused-low {m} {number} {place} low e = back (subst (λ (r : Reading Sheet). Low r) e low)

@@ -16,13 +16,13 @@ use Rattle.stores.specs.Stores.{Rule, Constraint, closure}
 use Rattle.store_laws.specs.StoreLaws.{closure-constraint, conclusions-lt}
 use Rattle.sheets.specs.SheetLimits.{maxRules, minNodes, maxNodes, minStarts, maxStarts, maxThreads, ruleLength, nodeLength, startLength}
 use Rattle.sheets.specs.Sheet.{Node, stop, tell, ask, both, either, Configuration, nodeOf, opened, openedAll}
-use Rattle.sheet_reading.specs.Reading.{Reading, got, refused, andThen, recordsFrom, countAt, setAt, premiseAt, ruleAt, rulesAt, kindAt, firstAt, secondAt, nodeFrom, nodeAt, nodesAt, threadAt, threadsFrom, startAt, startsAt}
+use Rattle.sheet_reading.specs.Reading.{Reading, got, refused, andThen, recordsFrom, countAt, setAt, ruleAt, rulesAt, kindAt, firstAt, secondAt, nodeFrom, nodeAt, nodesAt, threadAt, threadsFrom, startAt, startsAt}
 use Rattle.sheets.specs.WellFormed.{Process, RuleFits, NodeFits}
 use Rattle.sheet_laws.specs.Ranks.{Ranked, rankOf}
 use Rattle.sheet_laws.specs.OpeningLaws.{LowerNames, ranked-none, ranked-next, opening-prefix, opened-process}
 use Rattle.sheet_laws.specs.NodeFields.{nodeFieldsAt, opensToMany, node-checked}
 use Rattle.sheet_laws.specs.Gets.{Gets, gets-less, got-gets, checked-gets, then-gets, then-checked-gets, records-gets}
-use Rattle.sheet_laws.specs.FieldLaws.{Taken, taken-then, taken-section, count-gets, set-gets, premise-gets, kind-gets, unused-gets, below-gets, thread-gets, KindIs, is-stop, is-tell, is-ask, is-pair, kindIs, pair-tests, first-unused, first-set, first-below, second-unused, second-any, second-below}
+use Rattle.sheet_laws.specs.FieldLaws.{Taken, taken-then, taken-section, count-gets, set-gets, kind-gets, unused-gets, below-gets, thread-gets, KindIs, is-stop, is-tell, is-ask, is-pair, kindIs, pair-tests, first-unused, first-set, first-below, second-unused, second-any, second-below}
 
 -- ---- a count, and so many records of at most so many bytes
 pub record Counted (low high : ℕ) (s : List ℕ) (at bytes n next : ℕ) : Type 0 where
@@ -68,16 +68,16 @@ each-next P read r h p a m =
 
 -- ---- rules
 module _ (facts : ℕ) (s : List ℕ) (at : ℕ) where
-  pub rule-no-premise : {number place : ℕ} → premiseAt facts s at ≡ refused number place → ruleAt facts s at ≡ refused number place
+  pub rule-no-premise : {number place : ℕ} → setAt facts s at ≡ refused number place → ruleAt facts s at ≡ refused number place
   unfolding ruleAt
   rule-no-premise e = rw e
 
-  pub rule-no-conclusion : {p q number place : ℕ} → premiseAt facts s at ≡ got p q → setAt facts s q ≡ refused number place
+  pub rule-no-conclusion : {p q number place : ℕ} → setAt facts s at ≡ got p q → setAt facts s q ≡ refused number place
       → ruleAt facts s at ≡ refused number place
   unfolding ruleAt
   rule-no-conclusion e f = rw (e, f)
 
-  pub rule-got : {p q c next : ℕ} → premiseAt facts s at ≡ got p q → setAt facts s q ≡ got c next
+  pub rule-got : {p q c next : ℕ} → setAt facts s at ≡ got p q → setAt facts s q ≡ got c next
       → ruleAt facts s at ≡ got (record { premise = p; conclusion = c }) next
   unfolding ruleAt
   rule-got e f = rw (e, f)
@@ -85,10 +85,10 @@ module _ (facts : ℕ) (s : List ℕ) (at : ℕ) where
   rule-gets : Gets (λ r next. Taken s at ruleLength next × RuleFits facts r) (ruleAt facts s at)
   unfolding ruleAt
   rule-gets =
-      then-gets _ _ (premiseAt facts s at) _ (premise-gets s at facts) (λ p q h.
+      then-gets _ _ (setAt facts s at) _ (set-gets s at facts) (λ p q h.
       then-gets _ _ (setAt facts s q) _ (set-gets s q facts) (λ c next k.
       got-gets _ (record { premise = p; conclusion = c }) next
-      (taken-then (h .0) (k .0), record { premise = h .1; conclusion = k .1; some-premise = h .2 })))
+      (taken-then (h .0) (k .0), record { premise = h .1; conclusion = k .1 })))
 
 abbrev pub RulesFit : ℕ → List Rule → Type 0
 RulesFit facts rules = (r : Rule) → List·Memᴰ r rules → RuleFits facts r

@@ -9,10 +9,10 @@ use lib.Pow.{pow-pos}
 use lib.Dec.{eqb, leb, ltb}
 use borrow.Author.Tests.{ltb-true, ltb-false, lt-ltb, le-ltb, leb-true, leb-false, eqb-true, eqb-false}
 use Rattle.sheets.specs.SheetLimits.{maxFacts, maxRules, minNodes, maxNodes, minStarts, maxStarts, maxThreads, maxKind}
-use Rattle.sheets.specs.Refusals.{cutOff, manyFacts, manyRules, absentFact, emptyPremise, wrongNodes, wrongKind, wrongNode, usedField, wrongStarts, manyThreads}
-use Rattle.sheets.specs.SheetBytes.{Field, factCount, ruleCount, nodeCount, startCount, threadCount, set, premise, kind, unused, nodeBelow, thread, width, numberIn, Wrong, many-facts, many-rules, absent-fact, absent-in-premise, empty-premise, few-nodes, many-nodes, no-kind, node-not-below, no-such-thread, not-zero, few-starts, many-starts, many-threads, FieldIs, FieldRefused, cut-off, wrong}
+use Rattle.sheets.specs.Refusals.{cutOff, manyFacts, manyRules, absentFact, wrongNodes, wrongKind, wrongNode, usedField, wrongStarts, manyThreads}
+use Rattle.sheets.specs.SheetBytes.{Field, factCount, ruleCount, nodeCount, startCount, threadCount, set, kind, unused, nodeBelow, thread, width, numberIn, Wrong, many-facts, many-rules, absent-fact, few-nodes, many-nodes, no-kind, node-not-below, no-such-thread, not-zero, few-starts, many-starts, many-threads, FieldIs, FieldRefused, cut-off, wrong}
 use Rattle.sheet_reading.specs.Reading as reading
-use Rattle.sheet_reading.specs.Reading.{Reading, got, refused, andThen, refusedIf, byteAt, wordAt, countAt, setAt, premiseAt, kindAt, below, threadAt}
+use Rattle.sheet_reading.specs.Reading.{Reading, got, refused, andThen, refusedIf, byteAt, wordAt, countAt, setAt, kindAt, below, threadAt}
 use Rattle.sheet_reading.specs.Sound.{Sound, ReadsAs, sound-got, sound-refused, if-sound, then-sound, got-not-refused}
 
 -- What a check makes of what stands in a field: it passes and nothing refuses it, or one number does and no other.
@@ -122,24 +122,6 @@ module _ (v at next : ℕ) where
       go true e = fails (absent-fact (leb-true _ _ e)) (λ k w. which w .0)
       go false e = passes (λ k w. omega (arith, which w .1, leb-false (2 ^ facts) v e))
 
-  premise-checked : (facts : ℕ)
-      → Checked (premise facts) v at next (andThen (refusedIf (leb (2 ^ facts) v) absentFact at (got v next)) (λ c n. refusedIf (eqb c 0) emptyPremise at (got c n)))
-  premise-checked facts = go (leb (2 ^ facts) v) (eqb v 0) refl refl
-    where
-      high : {k : ℕ} → 2 ^ facts ≤ v → Wrong (premise facts) v k → k ≡ absentFact
-      high l (absent-in-premise h) = refl
-      high l (empty-premise h e) = absurd (omega (arith, l, h))
-
-      low : {k : ℕ} → v < 2 ^ facts → Wrong (premise facts) v k → (k ≡ emptyPremise) × (v ≡ 0)
-      low l (absent-in-premise h) = absurd (omega (arith, l, h))
-      low l (empty-premise h e) = (refl, e)
-
-      go : (a b : Bool) → leb (2 ^ facts) v ≡ a → eqb v 0 ≡ b
-          → Checked (premise facts) v at next (andThen (refusedIf a absentFact at (got v next)) (λ c n. refusedIf (eqb c 0) emptyPremise at (got c n)))
-      go true b e g = fails (absent-in-premise (leb-true _ _ e)) (λ k w. high (leb-true _ _ e) w)
-      go false true e g = rw g (fails (empty-premise (leb-false _ _ e) (eqb-true _ _ g)) (λ k w. low (leb-false _ _ e) w .0))
-      go false false e g = rw g (passes (λ k w. eqb-false _ _ g (low (leb-false _ _ e) w .1)))
-
   kind-checked : Checked kind v at next (refusedIf (ltb maxKind v) wrongKind at (got v next))
   kind-checked = go (ltb maxKind v) refl
     where
@@ -219,15 +201,3 @@ module _ (s : List ℕ) (at : ℕ) where
   pub thread-reads : (nodes : ℕ) → Reads (thread nodes) s at (threadAt nodes s at)
   unfolding threadAt
   thread-reads nodes = checked-reads (thread nodes) s at _ (λ v next. thread-checked v at next nodes)
-
-  -- a premise is read as a set first, and then looked at again
-  pub premise-reads : (facts : ℕ) → Reads (premise facts) s at (premiseAt facts s at)
-  unfolding premiseAt setAt
-  premise-reads facts =
-      subst (λ (r : Reading ℕ). Reads (premise facts) s at r) (regrouped (wordAt s at))
-      (checked-reads (premise facts) s at _ (λ v next. premise-checked v at next facts))
-    where
-      regrouped : (r : Reading ℕ) → andThen r (λ v next. andThen (refusedIf (leb (2 ^ facts) v) absentFact at (got v next)) (λ c n. refusedIf (eqb c 0) emptyPremise at (got c n)))
-          ≡ andThen (andThen r (λ c next. refusedIf (leb (2 ^ facts) c) absentFact at (got c next))) (λ c next. refusedIf (eqb c 0) emptyPremise at (got c next))
-      regrouped (got v next) = refl
-      regrouped (refused number place) = refl

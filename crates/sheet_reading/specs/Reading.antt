@@ -7,7 +7,7 @@ use lib.ListN.{length, getD}
 use lib.Dec.{eqb, leb, ltb}
 use Rattle.stores.specs.Stores.{Rule, closure}
 use Rattle.sheets.specs.SheetLimits.{maxFacts, maxRules, minNodes, maxNodes, minStarts, maxStarts, maxThreads, maxKind, nameLength, firstPrintable, lastPrintable}
-use Rattle.sheets.specs.Refusals.{cutOff, manyFacts, unprintable, manyRules, absentFact, emptyPremise, wrongNodes, wrongKind, wrongNode, usedField, wrongStarts, manyThreads, bytesLeft, wideNode, absentStart}
+use Rattle.sheets.specs.Refusals.{cutOff, manyFacts, unprintable, manyRules, absentFact, wrongNodes, wrongKind, wrongNode, usedField, wrongStarts, manyThreads, bytesLeft, wideNode, absentStart}
 use Rattle.sheets.specs.SheetBytes.{word}
 use Rattle.sheets.specs.Sheet.{Node, stop, tell, ask, both, either, Configuration, Sheet, opened, openedAll}
 
@@ -73,13 +73,10 @@ namesFrom (suc n) k s at = andThen (nameAt s at) (λ name next. namesFrom n k s 
 unfoldable pub factsAt : List ℕ → ℕ → Reading ℕ
 factsAt s at = andThen (countAt 0 maxFacts manyFacts s at) (λ n next. namesFrom n n s next)
 
--- ---- rules. 6: an empty premise, after 5 in the same field.
-unfoldable pub premiseAt : ℕ → List ℕ → ℕ → Reading ℕ
-premiseAt facts s at = andThen (setAt facts s at) (λ c next. refusedIf (eqb c 0) emptyPremise at (got c next))
-
+-- ---- rules: premise, conclusion
 unfoldable pub ruleAt : ℕ → List ℕ → ℕ → Reading Rule
 ruleAt facts s at =
-    andThen (premiseAt facts s at) (λ p next. andThen (setAt facts s next) (λ c end. got (record { premise = p; conclusion = c }) end))
+    andThen (setAt facts s at) (λ p next. andThen (setAt facts s next) (λ c end. got (record { premise = p; conclusion = c }) end))
 
 -- the rules; 4: more than 32
 unfoldable pub rulesAt : ℕ → List ℕ → ℕ → Reading (List Rule)

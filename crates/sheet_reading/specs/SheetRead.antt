@@ -12,27 +12,27 @@ use Rattle.stores.specs.Stores.{Rule, closure}
 use Rattle.sheets.specs.SheetLimits.{maxFacts, maxRules, minNodes, maxNodes, minStarts, maxStarts, maxThreads, maxKind}
 use Rattle.sheets.specs.Refusals.{manyRules, wrongNodes, wrongStarts, manyThreads, bytesLeft, wideNode, absentStart}
 use Rattle.sheets.specs.Sheet.{Node, stop, tell, ask, both, either, Configuration, Sheet, openedAll}
-use Rattle.sheets.specs.SheetBytes.{Field, ruleCount, nodeCount, startCount, threadCount, set, premise, kind, unused, nodeBelow, thread, no-kind, FieldIs, FieldRefused, RecordsAre, none, one-more, SectionIs, SectionRefused, FactIs, FactRefused, RuleIs, RuleRefused, by-premise, by-conclusion, KindIs, is-stop, is-tell, is-ask, is-both, is-either, NodeFieldsAre, fields, threadsOf, NodeIs, NodeRefused, by-kind, by-first, by-second, wide, ThreadIs, ThreadRefused, StartIs, start, StartRefused, by-store, by-threads, opened-many, FactsAre, RulesAre, NodesAre, StartsAre, SectionsAre, sections, SheetIs, SheetRefused, by-facts, by-rules, by-nodes, by-starts, bytes-left, ChoiceIs, ChoiceRefused, by-sheet, no-left, no-right, ExactlyOne, a-sheet, a-refusal}
-use Rattle.sheet_reading.specs.Reading.{Reading, got, refused, andThen, refusedIf, recordsFrom, countAt, setAt, premiseAt, ruleAt, rulesAt, kindAt, firstAt, secondAt, nodeFrom, nodeAt, nodesAt, threadAt, threadsFrom, startAt, startsAt, factsAt, readSheet, readChoice}
+use Rattle.sheets.specs.SheetBytes.{Field, ruleCount, nodeCount, startCount, threadCount, set, kind, unused, nodeBelow, thread, no-kind, FieldIs, FieldRefused, RecordsAre, none, one-more, SectionIs, SectionRefused, FactIs, FactRefused, RuleIs, RuleRefused, by-premise, by-conclusion, KindIs, is-stop, is-tell, is-ask, is-both, is-either, NodeFieldsAre, fields, threadsOf, NodeIs, NodeRefused, by-kind, by-first, by-second, wide, ThreadIs, ThreadRefused, StartIs, start, StartRefused, by-store, by-threads, opened-many, FactsAre, RulesAre, NodesAre, StartsAre, SectionsAre, sections, SheetIs, SheetRefused, by-facts, by-rules, by-nodes, by-starts, bytes-left, ChoiceIs, ChoiceRefused, by-sheet, no-left, no-right, ExactlyOne, a-sheet, a-refusal}
+use Rattle.sheet_reading.specs.Reading.{Reading, got, refused, andThen, refusedIf, recordsFrom, countAt, setAt, ruleAt, rulesAt, kindAt, firstAt, secondAt, nodeFrom, nodeAt, nodesAt, threadAt, threadsFrom, startAt, startsAt, factsAt, readSheet, readChoice}
 use Rattle.sheet_reading.specs.Sound.{Sound, ReadsAs, sound-got, sound-refused, if-sound, then-sound, sound-as, got-not-refused}
-use Rattle.sheet_reading.specs.FieldsRead.{Reads, rules-count-reads, nodes-count-reads, starts-count-reads, threads-count-reads, set-reads, premise-reads, kind-reads, unused-reads, below-reads, thread-reads}
+use Rattle.sheet_reading.specs.FieldsRead.{Reads, rules-count-reads, nodes-count-reads, starts-count-reads, threads-count-reads, set-reads, kind-reads, unused-reads, below-reads, thread-reads}
 use Rattle.sheet_reading.specs.RecordsRead.{section-reads}
 use Rattle.sheet_reading.specs.NamesRead.{facts-reads}
 
 -- ---- rules
 module _ (facts : ℕ) (s : List ℕ) where
   abbrev ruleSteps : ℕ → Reading Rule
-  ruleSteps at = andThen (premiseAt facts s at) (λ p next. andThen (setAt facts s next) (λ c end. got (record { premise = p; conclusion = c }) end))
+  ruleSteps at = andThen (setAt facts s at) (λ p next. andThen (setAt facts s next) (λ c end. got (record { premise = p; conclusion = c }) end))
 
   pub rule-reads : (n : ℕ) (before : List Rule) (at : ℕ) → ReadsAs (RuleIs facts s n before at) (RuleRefused facts s n before at) (ruleAt facts s at)
   unfolding ruleAt
   rule-reads n before at =
       record {
-        sound = then-sound (premiseAt facts s at) _ (premise-reads s at facts .sound) (λ number place h. by-premise h) (λ p q i.
+        sound = then-sound (setAt facts s at) _ (set-reads s at facts .sound) (λ number place h. by-premise h) (λ p q i.
             then-sound (setAt facts s q) _ (set-reads s q facts .sound) (λ number place h. by-conclusion i h) (λ c next j.
             sound-got (record { premise = p; conclusion = c }) next (record { second = q; premise-field = i; conclusion-field = j })));
         is-got = λ r next h. rw (
-          premise-reads s at facts .is-got (r .premise) (h .second) (h .premise-field),
+          set-reads s at facts .is-got (r .premise) (h .second) (h .premise-field),
           set-reads s (h .second) facts .is-got (r .conclusion) next (h .conclusion-field),
         );
         is-refused = λ number place h. stops number place h;
@@ -40,9 +40,9 @@ module _ (facts : ℕ) (s : List ℕ) where
     where
       stops : (number place : ℕ) → RuleRefused facts s n before at number place
           → ruleSteps at ≡ refused number place
-      stops number place (by-premise h) = rw (premise-reads s at facts .is-refused number place h)
+      stops number place (by-premise h) = rw (set-reads s at facts .is-refused number place h)
       stops number place (by-conclusion {p = p} {second = q} i h) =
-          rw (premise-reads s at facts .is-got p q i, set-reads s q facts .is-refused number place h)
+          rw (set-reads s at facts .is-got p q i, set-reads s q facts .is-refused number place h)
 
   pub rules-reads : (at : ℕ) → ReadsAs (RulesAre facts s at) (SectionRefused ruleCount (RuleIs facts s) (RuleRefused facts s) s at) (rulesAt facts s at)
   unfolding rulesAt

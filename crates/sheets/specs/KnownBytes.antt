@@ -8,7 +8,7 @@ use lib.ListN.{length}
 use Rattle.stores.specs.Stores.{closure}
 use Rattle.sheets.specs.Refusals.{cutOff, manyFacts, absentFact, wrongNodes, wrongKind, wrongNode, usedField, bytesLeft}
 use Rattle.sheets.specs.Sheet.{stop, Configuration, Sheet, openWithin, openedAll}
-use Rattle.sheets.specs.SheetBytes.{factCount, ruleCount, nodeCount, startCount, threadCount, set, kind, unused, Wrong, many-facts, many-rules, absent-fact, absent-in-premise, few-nodes, many-nodes, no-kind, node-not-below, not-zero, few-starts, many-starts, many-threads, FieldIs, cut-off, wrong, none, one-more, by-count, by-record, by-premise, is-stop, is-tell, is-both, fields, by-kind, by-first, by-second, start, FactsAre, RulesAre, NodesAre, StartsAre, SectionsAre, sections, SheetIs, SheetRefused, by-facts, by-rules, by-nodes, bytes-left}
+use Rattle.sheets.specs.SheetBytes.{factCount, ruleCount, nodeCount, startCount, threadCount, set, kind, unused, Wrong, many-facts, many-rules, absent-fact, few-nodes, many-nodes, no-kind, node-not-below, not-zero, few-starts, many-starts, many-threads, FieldIs, cut-off, wrong, none, one-more, by-count, by-record, by-premise, is-stop, is-tell, is-both, fields, by-kind, by-first, by-second, start, FactsAre, RulesAre, NodesAre, StartsAre, SectionsAre, sections, SheetIs, SheetRefused, by-facts, by-rules, by-nodes, bytes-left}
 
 -- ---- values that no number refuses
 no-facts : (number : ℕ) → Wrong factCount 0 number → ⊥
@@ -72,7 +72,20 @@ pub absent-in-rule : SheetRefused (0 ∷ 1 ∷ 1 ∷ 0 ∷ []) absentFact 2
 absent-in-rule =
     by-rules (no-facts-here (1 ∷ 1 ∷ 0 ∷ []))
     (by-record {before = []} (record { stands = omega arith; value = refl; right = few-rules 1 (omega arith); after = refl }) (omega arith) none
-    (by-premise (wrong (omega arith) (absent-in-premise {facts = 0} {c = 1} (omega arith)))))
+    (by-premise (wrong (omega arith) (absent-fact {facts = 0} {c = 1} (omega arith)))))
+
+-- a rule with nothing on both sides is right (document 02, card 2)
+pub nothing-gives-nothing : (rest : List ℕ) → RulesAre 0 (0 ∷ 1 ∷ 0 ∷ 0 ∷ 0 ∷ 0 ∷ rest) 1 (record { premise = 0; conclusion = 0 } ∷ []) 6
+nothing-gives-nothing rest =
+    record {
+      first = 2;
+      counted = record { stands = omega arith; value = refl; right = few-rules 1 (omega arith); after = refl };
+      records = one-more {before = []} {at = 2} {mid = 6} (record {
+        second = 4;
+        premise-field = record { stands = omega arith; value = refl; right = no-set; after = refl };
+        conclusion-field = record { stands = omega arith; value = refl; right = no-set; after = refl };
+      }) none;
+    }
 
 -- no nodes: 7
 pub no-nodes : (rest : List ℕ) → SheetRefused (begun (0 ∷ rest)) wrongNodes 2

@@ -20,8 +20,7 @@ manyRules = 4
 abbrev pub absentFact : ℕ
 absentFact = 5
 
-abbrev pub emptyPremise : ℕ
-emptyPremise = 6
+-- 6, document 01's number for an empty premise, is no longer given (document 02, card 2).
 
 -- no nodes, or too many
 abbrev pub wrongNodes : ℕ

@@ -7,12 +7,12 @@ use Prim.Native.Nat.{ℕ, _+_, _*_, _^_, _/_, _%_, _≤_, _<_}
 use lib.ListN.{length, getD}
 use Rattle.stores.specs.Stores.{Rule, closure}
 use Rattle.sheets.specs.SheetLimits.{maxFacts, maxRules, minNodes, maxNodes, minStarts, maxStarts, maxThreads, maxKind, nameLength, firstPrintable, lastPrintable}
-use Rattle.sheets.specs.Refusals.{cutOff, manyFacts, unprintable, manyRules, absentFact, emptyPremise, wrongNodes, wrongKind, wrongNode, usedField, wrongStarts, manyThreads, bytesLeft, wideNode, absentStart}
+use Rattle.sheets.specs.Refusals.{cutOff, manyFacts, unprintable, manyRules, absentFact, wrongNodes, wrongKind, wrongNode, usedField, wrongStarts, manyThreads, bytesLeft, wideNode, absentStart}
 use Rattle.sheets.specs.Sheet.{Node, stop, tell, ask, both, either, Configuration, Sheet, opened, openedAll}
 
 -- ---- one field
--- The fields that hold a number: the five counts; a set of the sheet's facts, and one that is a premise; a node's kind byte; a field of
--- a node that is not used, and one that names a node below a bound; a thread's byte in a start.
+-- The fields that hold a number: the five counts; a set of the sheet's facts; a node's kind byte; a field of a node that is not used, and
+-- one that names a node below a bound; a thread's byte in a start.
 pub data Field : Type 0 where
   factCount : Field
   ruleCount : Field
@@ -20,7 +20,6 @@ pub data Field : Type 0 where
   startCount : Field
   threadCount : Field
   set : (facts : ℕ) → Field
-  premise : (facts : ℕ) → Field
   kind : Field
   unused : Field
   nodeBelow : (bound : ℕ) → Field
@@ -34,7 +33,6 @@ width nodeCount = 1
 width startCount = 1
 width threadCount = 1
 width (set facts) = 2
-width (premise facts) = 2
 width kind = 1
 width unused = 2
 width (nodeBelow bound) = 2
@@ -56,7 +54,6 @@ numberIn nodeCount s at = getD s at 0
 numberIn startCount s at = getD s at 0
 numberIn threadCount s at = getD s at 0
 numberIn (set facts) s at = word s at
-numberIn (premise facts) s at = word s at
 numberIn kind s at = getD s at 0
 numberIn unused s at = word s at
 numberIn (nodeBelow bound) s at = word s at
@@ -70,9 +67,6 @@ pub data Wrong : Field → ℕ → ℕ → Type 0 where
   many-rules : {n : ℕ} → maxRules < n → Wrong ruleCount n manyRules
   -- 5: a set holds an absent fact
   absent-fact : {facts c : ℕ} → 2 ^ facts ≤ c → Wrong (set facts) c absentFact
-  absent-in-premise : {facts c : ℕ} → 2 ^ facts ≤ c → Wrong (premise facts) c absentFact
-  -- 6: an empty premise, which has no absent fact
-  empty-premise : {facts c : ℕ} → c < 2 ^ facts → c ≡ 0 → Wrong (premise facts) c emptyPremise
   -- 7: no node, or more than 64
   few-nodes : {n : ℕ} → n < minNodes → Wrong nodeCount n wrongNodes
   many-nodes : {n : ℕ} → maxNodes < n → Wrong nodeCount n wrongNodes
@@ -152,15 +146,15 @@ FactIs s n before at name next = NameIs s at name next
 abbrev pub FactRefused : List ℕ → Refusing (List ℕ)
 FactRefused s n before at number place = NameRefused s at number place
 
--- ---- rules: premise, conclusion
+-- ---- rules: premise, conclusion. A premise may be empty (document 02, card 2): its conclusion always stands.
 pub record RuleIs (facts : ℕ) (s : List ℕ) (n : ℕ) (before : List Rule) (at : ℕ) (r : Rule) (next : ℕ) : Type 0 where
   pub second : ℕ
-  pub premise-field : FieldIs (premise facts) s at (r .premise) second
+  pub premise-field : FieldIs (set facts) s at (r .premise) second
   pub conclusion-field : FieldIs (set facts) s second (r .conclusion) next
 
 pub data RuleRefused (facts : ℕ) (s : List ℕ) (n : ℕ) (before : List Rule) (at number place : ℕ) : Type 0 where
-  by-premise : FieldRefused (premise facts) s at number place → RuleRefused facts s n before at number place
-  by-conclusion : {p second : ℕ} → FieldIs (premise facts) s at p second → FieldRefused (set facts) s second number place
+  by-premise : FieldRefused (set facts) s at number place → RuleRefused facts s n before at number place
+  by-conclusion : {p second : ℕ} → FieldIs (set facts) s at p second → FieldRefused (set facts) s second number place
       → RuleRefused facts s n before at number place
 
 -- ---- nodes: kind byte, first field, second field

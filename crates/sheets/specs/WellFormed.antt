@@ -19,11 +19,10 @@ pub record OfSheet (sheet : Sheet) (p : Configuration) : Type 0 where
   pub store : Constraint (sheet .facts) (sheet .rules) (p .store)
   pub process : Process (sheet .nodes) (p .threads)
 
--- Both sets of a rule hold facts of the sheet, and the premise is not empty.
+-- Both sets of a rule hold facts of the sheet.
 pub record RuleFits (facts : ℕ) (r : Rule) : Type 0 where
   pub premise : r .premise < 2 ^ facts
   pub conclusion : r .conclusion < 2 ^ facts
-  pub some-premise : r .premise ≡ 0 → ⊥
 
 -- Node k of n: its set is a constraint; an ask names any node, both and either name lower nodes only.
 abbrev pub NodeFits : ℕ → List Rule → ℕ → ℕ → Node → Type 0

@@ -1,2 +1,3 @@
 pub mod FactSetLaws
 pub mod StoreLaws
+pub mod OutsideLaws

@@ -1,2 +1,3 @@
 pub mod FactSets
+pub mod FactsOutside
 pub mod Stores

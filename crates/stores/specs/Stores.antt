@@ -71,7 +71,8 @@ entails d c = includes d c
 abbrev pub strictlyBelow : ℕ → ℕ → Bool
 strictlyBelow a b = entails b a && not (eqb a b)
 
--- The least store, the paper's `true`: what every store has. Document 01 has it as the empty set, store 0, and so it is
--- where no premise is empty (`least-store-empty`).
+-- The least store, the paper's `true`: the closure of nothing, which every constraint includes. Document 02, card 2, has it in
+-- the place of document 01's empty set: a rule with an empty premise gives facts that always stand. Where no premise is empty it is
+-- store 0 (`least-store-empty`).
 abbrev pub leastStore : List Rule → ℕ
 leastStore rs = closure rs 0

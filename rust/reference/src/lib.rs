@@ -1,4 +1,4 @@
-//! Document 01 and cards 1, 3 and 13 of document 02 written again in Rust, twice, from their text and the
+//! Document 01 and cards 1, 2, 3 and 13 of document 02 written again in Rust, twice, from their text and the
 //! readings in docs/DECISIONS.md and without the library's code: [`plain`], to be read beside the documents,
 //! and [`fast`], written for speed. The library is held to both, and they to each other. Both take the
 //! limits as a given value.
@@ -45,7 +45,7 @@ fn refused<const N: usize>(number: u32, place: usize) -> Returned<N> {
 /// after so many rounds, or about all starts of a sheet, whatever slices are lent.
 #[derive(Clone, Debug, PartialEq, Eq)]
 pub enum Judgement<const N: usize = 6> {
-    /// Refusals 1 to 15.
+    /// Refusals 1 to 15; by card 2 none of them is 6.
     Refused { number: u32, place: usize },
     /// Refusal 21.
     TooLarge,

@@ -1,6 +1,7 @@
-//! Document 01, plainly: in its order and its words, with no thought of speed. At the end stand two cards
-//! of document 02: card 1, all starts of a sheet compared together, and card 13, two starts after so many
-//! rounds.
+//! Document 01, plainly: in its order and its words, with no thought of speed. Card 2 of document 02 changes
+//! it in place: a premise may be empty, and the least store, which labels a tell and a reduction, is the
+//! closure of nothing. At the end stand two other cards: card 1, all starts of a sheet compared together, and
+//! card 13, two starts after so many rounds.
 
 use crate::{Judgement, Limits};
 use std::collections::{BTreeMap, BTreeSet, HashMap};
@@ -176,10 +177,7 @@ impl<'a> Reader<'a> {
         }
         let mut rules = vec![];
         for _ in 0..count {
-            let (premise, place) = self.set(facts)?;
-            if premise == 0 {
-                return refuse(6, place);
-            }
+            let (premise, _) = self.set(facts)?;
             let (conclusion, _) = self.set(facts)?;
             rules.push((premise, conclusion));
         }
@@ -286,6 +284,11 @@ impl Moving<'_> {
         Moving { sheet, limits, constraints, labels: HashMap::new(), node_moves: HashMap::new() }
     }
 
+    /// The least store: the facts that always stand.
+    fn least(&self) -> Set {
+        closure(&self.sheet.rules, 0)
+    }
+
     fn join(&self, a: Set, b: Set) -> Set {
         closure(&self.sheet.rules, a | b)
     }
@@ -322,7 +325,7 @@ impl Moving<'_> {
         match nodes.node[node] {
             Node::Stop => {}
             Node::Tell(set) => {
-                found.insert((0, self.join(store, set), vec![]));
+                found.insert((self.least(), self.join(store, set), vec![]));
             }
             Node::Ask(set, next) => {
                 for label in self.labels(store, set) {

@@ -1,7 +1,9 @@
 //! The two implementations agree with each other, and with the sheets that document 01 knows.
 
 use reference::{fast, plain, Judgement, Limits, Returned, WORK_NUMBERS};
-use sheets::{alike_pair, damage, deepest_chain, draw, sheet_k, variants, Draft, Rng, ASK, BOTH, SHAPES, TELL};
+use sheets::{
+    alike_pair, damage, deepest_chain, draw, sheet_k, variants, with_standing, Draft, Rng, ASK, BOTH, SHAPES, TELL,
+};
 
 /// Verdict, round and steps as side, label, target, reply.
 type Short = (usize, usize, Vec<(u8, u16, u16, u16)>);
@@ -201,6 +203,47 @@ fn random_sheets_after_rounds() {
         for (at, seen) in [("", seen), (", desk's limits", desk)] {
             let other = 1_500 - seen[0] - seen[21];
             println!("{}, after rounds{at}: {} answers, {} too large, {other} other", shape.name, seen[0], seen[21]);
+        }
+    }
+}
+
+/// Every call on sheets with facts that always stand; one in ten is damaged.
+#[test]
+fn random_sheets_with_standing_facts() {
+    let mut held = Held::new();
+    for shape in &SHAPES {
+        let many = shape.with_starts(2, 16);
+        let mut rng = Rng::new(4);
+        // How many sheets have a least store of 0, of all facts, and between the two.
+        let mut least = [0; 3];
+        let (mut seen, mut all, mut after) = ([0; 24], [0; 24], [0; 24]);
+        for i in 0..1_500 {
+            let draft = match i % 3 {
+                0 => alike_pair(shape, &mut rng),
+                1 => draw(shape, &mut rng),
+                _ => variants(&many, &mut rng),
+            };
+            let draft = with_standing(draft, &mut rng);
+            least[match draft.least() {
+                0 => 0,
+                every if every == (1 << draft.facts) - 1 => 1,
+                _ => 2,
+            }] += 1;
+            let mut bytes = draft.bytes();
+            if i % 10 == 9 {
+                damage(&mut bytes, &mut rng);
+            }
+            let k = rng.pick(&[0, 0, 1, 1, 2, 3, 5, 10, u64::MAX]);
+            for limits in [Limits::DOCUMENT, Limits::DESK] {
+                seen[held.hold(limits, &bytes, 0, 1) as usize] += 1;
+                all[held.hold_all(limits, &bytes) as usize] += 1;
+                after[held.hold_rounds(limits, &bytes, 0, 1, k) as usize] += 1;
+            }
+        }
+        println!("{}, standing facts: least store 0, all facts, between {least:?}", shape.name);
+        for (call, seen) in [("two starts", seen), ("all starts", all), ("after rounds", after)] {
+            println!("  {call}: {} answers, {} too large", seen[0], seen[21]);
+            assert_eq!(seen[6], 0);
         }
     }
 }

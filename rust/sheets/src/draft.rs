@@ -82,6 +82,19 @@ impl Draft {
         opened
     }
 
+    /// The closure of nothing: the facts that always stand.
+    pub fn least(&self) -> u16 {
+        let mut least = 0;
+        loop {
+            let fired = self.rules.iter().filter(|(premise, _)| premise & !least == 0);
+            let more = fired.fold(least, |sofar, (_, conclusion)| sofar | conclusion);
+            if more == least {
+                return least;
+            }
+            least = more;
+        }
+    }
+
     /// The node numbers that a node names.
     pub fn named(node: (u8, u16, u16)) -> Vec<u16> {
         match node {

@@ -363,15 +363,7 @@ impl<C: Call<N>, const N: usize> Harness<C, N> {
         self.fill(sheet, answer_len, work_len);
         let answer = &mut self.expected_answer[GUARD..GUARD + answer_len];
         let expected = judgement.call(answer, &mut self.expected_work[GUARD..GUARD + work_len]);
-        let mut result = vec![RESULT_GUARD; N + 2];
-        let lent = Lent {
-            sheet: (self.sheet[GUARD..].as_ptr(), sheet.len()),
-            answer: (self.answer[GUARD..].as_mut_ptr(), answer_len),
-            work: (self.work[GUARD..].as_mut_ptr(), work_len),
-            result: result[1..].as_mut_ptr(),
-        };
-        // SAFETY: the pointers and lengths are those of parts of four vectors, which do not overlap.
-        let number = unsafe { self.call.library(choice, lent) };
+        let (number, result) = self.invoke(sheet.len(), choice, answer_len, work_len);
         let returned = (number, result[1..=N].try_into().unwrap());
         let context = || format!("starts {choice:?}, lengths {answer_len} {work_len}, sheet {sheet:?}");
         assert_eq!(returned, expected, "returned: {}", context());
@@ -381,6 +373,32 @@ impl<C: Call<N>, const N: usize> Harness<C, N> {
         assert_eq!(&self.sheet[GUARD..GUARD + sheet.len()], sheet, "sheet: {}", context());
         self.calls += 1;
         returned
+    }
+
+    /// One call of the library on the filled buffers, with slices of these lengths: its number, and the
+    /// result inside its guards.
+    fn invoke(&mut self, sheet_len: usize, choice: C::Choice, answer_len: usize, work_len: usize) -> (u32, Vec<usize>) {
+        let mut result = vec![RESULT_GUARD; N + 2];
+        let lent = Lent {
+            sheet: (self.sheet[GUARD..].as_ptr(), sheet_len),
+            answer: (self.answer[GUARD..].as_mut_ptr(), answer_len),
+            work: (self.work[GUARD..].as_mut_ptr(), work_len),
+            result: result[1..].as_mut_ptr(),
+        };
+        // SAFETY: the pointers and lengths are those of parts of four vectors, which do not overlap.
+        let number = unsafe { self.call.library(choice, lent) };
+        (number, result)
+    }
+
+    /// One call of the library that is held to nothing, with an answer slice of this length: what it returns,
+    /// and the answer's bytes where there is one.
+    pub fn alone(&mut self, sheet: &[u8], choice: C::Choice, answer_len: usize) -> (Returned<N>, &[u8]) {
+        self.fill(sheet, answer_len, WORK);
+        let (number, result) = self.invoke(sheet.len(), choice, answer_len, WORK);
+        let numbers: [usize; N] = result[1..=N].try_into().unwrap();
+        // The last number but one is the length.
+        let length = if number == 0 { numbers[N - 2] } else { 0 };
+        ((number, numbers), &self.answer[GUARD..GUARD + length])
     }
 
     /// Guards and dirt in every buffer, the sheet in its own.

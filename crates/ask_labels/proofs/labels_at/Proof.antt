@@ -1,7 +1,7 @@
 -- An entry for what d lacks of c has the labels of an ask of c; where there is none they are found, behind those of the shelf
 -- or of one with no entries.
 use Rattle.ask_labels.specs.LabelShelfLaws.{entry-answers, missing-answers, shelved-kept}
-use Rattle.label_search.specs.FactsOutside.{outside}
+use Rattle.stores.specs.FactsOutside.{outside}
 use Rattle.ask_labels.specs.LabelShelf.{LabelsGiven}
 use mathlib.Core.Path.{_∙_, subst}
 use Prim.Native.Nat.{ℕ}

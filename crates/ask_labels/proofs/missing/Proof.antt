@@ -1,6 +1,6 @@
 -- The union is no less than d.
 use borrow.Author.Needs.{needs}
-use Rattle.label_search.specs.FactsOutside.{or-above}
+use Rattle.store_laws.specs.OutsideLaws.{or-above}
 use Rattle.ask_labels.proofs.missing.Statement.{statement}
 use Rattle.ask_labels.proofs.missing.Tie as tie
 

@@ -4,7 +4,7 @@ use borrow.Author.Needs.{needs}
 use native.Mathlib.Omega.{arith}
 use Prim.Native.Nat.{_+_, _-_, _≤_}
 use lib.ListN.{take, drop}
-use Rattle.label_search.specs.FactsOutside.{above-next}
+use Rattle.label_search.specs.SetsAbove.{above-next}
 use Rattle.label_search.specs.LabelScanLaws.{Scanned, scanned-none, scanned-next, below-all}
 use Rattle.label_search.proofs.scan_labels.Statement.{statement}
 use Rattle.label_search.proofs.scan_labels.Tie as tie

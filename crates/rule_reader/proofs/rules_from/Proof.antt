@@ -6,7 +6,7 @@ use Rattle.sheet_laws.specs.RecordLaws.{records-none, records-refused}
 use Rattle.sheet_laws.specs.StoredRecords.{storedFrom, stored-none, stored-refused, stored-next}
 use Rattle.sheet_types.specs.SectionLaws.{answer-got, answer-refused, refused-with}
 use Rattle.set_closure.specs.RuleTable.{rulesIn}
-use Rattle.sheet_laws.specs.FieldLaws.{set-gets, premise-gets}
+use Rattle.sheet_laws.specs.FieldLaws.{set-gets}
 use Rattle.sheet_laws.specs.SectionLaws.{rule-no-premise, rule-no-conclusion, rule-got}
 use Rattle.rule_reader.specs.RuleLoop.{ruleItem, storeRule, rules-first, rules-next}
 use borrow.Author.Needs.{needs}
@@ -28,17 +28,17 @@ abbrev μ-loop : tie.MeasureT-loop
 abbrev start-of-at-loop : tie.At-loop Inv-loop μ-loop → tie.Start Inv-loop μ-loop
 start-of-at-loop s = s .before .before
 
-abbrev at-loop-of-premise-at : tie.After-premise-at Inv-loop μ-loop → tie.At-loop Inv-loop μ-loop
-at-loop-of-premise-at s = s .before .before
+abbrev at-loop-of-premise : tie.After-set-at Inv-loop μ-loop → tie.At-loop Inv-loop μ-loop
+at-loop-of-premise s = s .before .before
 
-abbrev premise-at-of-x : tie.After-x Inv-loop μ-loop → tie.After-premise-at Inv-loop μ-loop
-premise-at-of-x s = s .before .before
+abbrev premise-of-x : tie.After-x Inv-loop μ-loop → tie.After-set-at Inv-loop μ-loop
+premise-of-x s = s .before .before
 
-abbrev x-of-set-at : tie.After-set-at Inv-loop μ-loop → tie.After-x Inv-loop μ-loop
-x-of-set-at s = s .before .before
+abbrev x-of-conclusion : tie.After-set-at2 Inv-loop μ-loop → tie.After-x Inv-loop μ-loop
+x-of-conclusion s = s .before .before
 
-abbrev set-at-of-y : tie.After-y Inv-loop μ-loop → tie.After-set-at Inv-loop μ-loop
-set-at-of-y s = s .before .before
+abbrev conclusion-of-y : tie.After-y Inv-loop μ-loop → tie.After-set-at2 Inv-loop μ-loop
+conclusion-of-y s = s .before .before
 
 -- ---- what is left to show
 loop-holds : tie.Need-loop-holds Inv-loop μ-loop
@@ -47,8 +47,8 @@ loop-holds c =
     let z : a .n - 0 ≡ a .n = omega arith in
     (search needs, search needs, search needs, rules-first (a .facts) (a .s .now) (a .n) (replicate 64 0) (a .at), rw z)
 
-premise-at-requires : tie.Need-premise-at-requires Inv-loop μ-loop
-premise-at-requires c κs = search needs
+set-at-requires : tie.Need-set-at-requires Inv-loop μ-loop
+set-at-requires c κs = search needs
 
 enum-known-x : tie.Need-enum-known-x Inv-loop μ-loop
 enum-known-x c = search needs
@@ -60,7 +60,7 @@ returns : tie.Need-returns Inv-loop μ-loop
 returns c =
     let a = c .before .before .before .before .before .before .args in
     let l = c .before .before .before .before .loop in
-    let wrong = answer-refused (c .before .before .premise-at .ensures) (c .enum-told .given .1) in
+    let wrong = answer-refused (c .before .before .set-at .ensures) (c .enum-told .given .1) in
     let here = rule-no-premise (a .facts) (a .s .now) (l .p) wrong in
     record {
       reading = refused-with (rulesIn (l .rules)) (c .enum-told .given .1)
@@ -69,11 +69,11 @@ returns c =
       array = sym (stored-refused (ruleAt (a .facts) (a .s .now)) storeRule (a .n) (l .i) (l .p) (l .rules) (omega arith) here) ∙ l .inv .4;
     }
 
-set-at-requires : tie.Need-set-at-requires Inv-loop μ-loop
-set-at-requires c κs =
+set-at-requires-2 : tie.Need-set-at-requires-2 Inv-loop μ-loop
+set-at-requires-2 c κs =
     let a = c .before .before .before .before .before .before .before .args in
-    let premise = answer-got (c .before .before .before .premise-at .ensures) (c .before .x .given .1) in
-    (premise-gets (a .s .now) (c .before .before .before .before .before .loop .p) (a .facts) .holds _ _ premise .0 .within, search needs)
+    let premise = answer-got (c .before .before .before .set-at .ensures) (c .before .x .given .1) in
+    (set-gets (a .s .now) (c .before .before .before .before .before .loop .p) (a .facts) .holds _ _ premise .0 .within, search needs)
 
 enum-known-y : tie.Need-enum-known-y Inv-loop μ-loop
 enum-known-y c = search needs
@@ -83,15 +83,15 @@ enum-told-2 c = search needs
 
 returns-2 : tie.Need-returns-2 Inv-loop μ-loop
 returns-2 c =
-    let at-set-at = c .before .before in
-    let at-x = x-of-set-at at-set-at in
-    let at-premise-at = premise-at-of-x at-x in
-    let at-loop = at-loop-of-premise-at at-premise-at in
+    let at-conclusion = c .before .before in
+    let at-x = x-of-conclusion at-conclusion in
+    let at-premise = premise-of-x at-x in
+    let at-loop = at-loop-of-premise at-premise in
     let at-start = start-of-at-loop at-loop in
     let a = at-start .args in
     let l = at-loop .loop in
-    let premise = answer-got (at-premise-at .premise-at .ensures) (at-x .x .given .1) in
-    let wrong = answer-refused (at-set-at .set-at .ensures) (c .enum-told2 .given .1) in
+    let premise = answer-got (at-premise .set-at .ensures) (at-x .x .given .1) in
+    let wrong = answer-refused (at-conclusion .set-at2 .ensures) (c .enum-told2 .given .1) in
     let here = rule-no-conclusion (a .facts) (a .s .now) (l .p) premise wrong in
     record {
       reading = refused-with (rulesIn (l .rules)) (c .enum-told2 .given .1)
@@ -130,15 +130,15 @@ loop-less c = search needs
 loop-again : tie.Need-loop-again Inv-loop μ-loop
 loop-again c =
     let at-y = c .before in
-    let at-set-at = set-at-of-y at-y in
-    let at-x = x-of-set-at at-set-at in
-    let at-premise-at = premise-at-of-x at-x in
-    let at-loop = at-loop-of-premise-at at-premise-at in
+    let at-conclusion = conclusion-of-y at-y in
+    let at-x = x-of-conclusion at-conclusion in
+    let at-premise = premise-of-x at-x in
+    let at-loop = at-loop-of-premise at-premise in
     let at-start = start-of-at-loop at-loop in
     let a = at-start .args in
     let l = at-loop .loop in
-    let premise = answer-got (at-premise-at .premise-at .ensures) (at-x .x .given .1) in
-    let conclusion = answer-got (at-set-at .set-at .ensures) (at-y .y .given .1) in
+    let premise = answer-got (at-premise .set-at .ensures) (at-x .x .given .1) in
+    let conclusion = answer-got (at-conclusion .set-at2 .ensures) (at-y .y .given .1) in
     let here = rule-got (a .facts) (a .s .now) (l .p) premise conclusion in (
       search needs,
       set-gets (a .s .now) (at-x .x .given .0 .1 .0) (a .facts) .holds _ _ conclusion .0 .within,
@@ -166,11 +166,11 @@ rules-from-spec =
     Inv-loop
     μ-loop
     loop-holds
-    premise-at-requires
+    set-at-requires
     enum-known-x
     enum-told
     returns
-    set-at-requires
+    set-at-requires-2
     enum-known-y
     enum-told-2
     returns-2
