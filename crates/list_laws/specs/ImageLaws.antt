@@ -2,7 +2,8 @@
 -- elements, where the two agree.
 use mathlib.Core.Path.{_≡_, refl, sym, ap, ap₂, _∙_}
 use mathlib.Core.Bool.{Bool, true, false, cond, _&&_, _||_}
-use mathlib.Core.List.{List, [], _∷_, _++_, map, map-append, List·Memᴰ, List·Memᴰ·head, List·Memᴰ·tail}
+use mathlib.Core.List.{List, [], _∷_, _++_, map, map-append, map-map, List·Memᴰ, List·Memᴰ·head, List·Memᴰ·tail}
+use Rattle.list_laws.specs.ListPlaces.{map-alike}
 use Rattle.lists.specs.Lists.{select, any, all, concatMap, place, enter, arrange}
 
 module _ {A B : Type 0} (f : A → B) where
@@ -51,9 +52,7 @@ module _ {A B : Type 0} (f : A → B) where
 -- images of images, made in two ways
 pub map-image : {A B C D : Type 0} (f : A → B) (g : B → D) (h : A → C) (k : C → D) (xs : List A)
     → ((a : A) → List·Memᴰ a xs → g (f a) ≡ k (h a)) → map g (map f xs) ≡ map k (map h xs)
-map-image f g h k [] e = refl
-map-image {D = D} f g h k (x ∷ xs) e =
-    ap₂ (λ (d : D) (l : List D). d ∷ l) (e x (List·Memᴰ·head refl)) (map-image f g h k xs (λ a m. e a (List·Memᴰ·tail m)))
+map-image f g h k xs e = map-map g f xs ∙ map-alike (λ a. g (f a)) (λ a. k (h a)) xs e ∙ sym (map-map k h xs)
 
 -- the lists of all images, one after another
 pub concatMap-image : {A B C D : Type 0} (f : A → B) (g : B → List D) (h : A → List C) (k : C → D) (xs : List A)

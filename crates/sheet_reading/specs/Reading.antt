@@ -144,19 +144,22 @@ unfoldable pub startsAt : ℕ → List Rule → List Node → List ℕ → ℕ �
 startsAt facts rules nodes s at =
     andThen (countAt minStarts maxStarts wrongStarts s at) (λ n next. recordsFrom (λ read p. startAt facts rules nodes s p) n [] next)
 
--- ---- the whole sheet; 13: bytes after the last start, at the first of them
-unfoldable pub readSheet : List ℕ → Reading Sheet
-readSheet s =
-    andThen (factsAt s 0) (λ facts p.
-    andThen (rulesAt facts s p) (λ rules q.
+-- ---- the whole sheet. After its rules: nodes, starts, and the end; 13: bytes after the last start, at the first of them
+abbrev pub fromNodes : ℕ → List ℕ → List Rule → ℕ → Reading Sheet
+fromNodes facts s rules q =
     andThen (nodesAt facts rules s q) (λ nodes t.
     andThen (startsAt facts rules nodes s t) (λ starts end.
-    refusedIf (ltb end (length s)) bytesLeft end (got (record { facts = facts; rules = rules; nodes = nodes; starts = starts }) end)))))
+    refusedIf (ltb end (length s)) bytesLeft end (got (record { facts = facts; rules = rules; nodes = nodes; starts = starts }) end)))
+
+unfoldable pub readSheet : List ℕ → Reading Sheet
+readSheet s = andThen (factsAt s 0) (λ facts p. andThen (rulesAt facts s p) (fromNodes facts s))
 
 -- The choice of a left and a right start, after the sheet. 14: not on the sheet, place 0 for the left and 1 for the right,
 -- the left first.
-unfoldable pub readChoice : List ℕ → ℕ → ℕ → Reading Sheet
-readChoice s left right =
-    andThen (readSheet s) (λ sheet end.
+abbrev pub chosen : ℕ → ℕ → Sheet → ℕ → Reading Sheet
+chosen left right sheet end =
     refusedIf (leb (length (sheet .starts)) left) absentStart 0
-    (refusedIf (leb (length (sheet .starts)) right) absentStart 1 (got sheet end)))
+    (refusedIf (leb (length (sheet .starts)) right) absentStart 1 (got sheet end))
+
+unfoldable pub readChoice : List ℕ → ℕ → ℕ → Reading Sheet
+readChoice s left right = andThen (readSheet s) (chosen left right)

@@ -5,7 +5,6 @@ use mathlib.Core.Bool.{Bool, true, false}
 use mathlib.Core.Logic.{⊎-elim}
 use mathlib.Core.List.{List, [], _∷_, _++_, List·Memᴰ, List·Memᴰ·head, List·Memᴰ·not-nil, List·Memᴰ·append-cases, List·Memᴰ·eq-of-singleton, Memᴰ·append-left, Memᴰ·append-right}
 use Prim.Native.Nat.{ℕ, zero, suc}
-use native.Mathlib.Omega.{arith}
 use lib.ListN.{length}
 use lib.Dec.{eqb, ltb}
 use borrow.Author.Tests.{eqb-true, eqb-false}
@@ -13,23 +12,21 @@ use Rattle.stores.specs.Stores.{Rule}
 use Rattle.sheets.specs.SheetLimits.{maxRules}
 use Rattle.sheets.specs.Refusals.{manyRules, bytesLeft}
 use Rattle.sheets.specs.Sheet.{Configuration, Sheet}
-use Rattle.sheet_reading.specs.Reading.{Reading, got, refused, andThen, refusedIf, recordsFrom, countAt, setAt, factsAt, ruleAt, rulesAt, nodesAt, startsAt, readSheet, readChoice}
+use Rattle.sheet_reading.specs.Reading.{Reading, got, refused, andThen, refusedIf, recordsFrom, countAt, setAt, factsAt, ruleAt, rulesAt, nodesAt, startsAt, readSheet, readChoice, fromNodes}
 use Rattle.sheets.specs.SheetBytes.{SheetIs}
+use Rattle.sheet_reading.specs.Sound.{got-not-refused}
 use Rattle.sheet_reading.specs.SheetRead.{sheet-reads}
 use Rattle.comparison.specs.CallLimits.{Limits}
 use Rattle.comparison.specs.Outcome.{Outcome}
 use Rattle.comparison.specs.Frame.{withSheet}
 use Rattle.comparison.specs.Call.{afterReading, compareWith}
-use Rattle.standing_laws.specs.EarlierSheets.{NoneStands, emptyPremise, earlierRule, earlierRules, fromNodes, earlierSheet, earlierChoice}
+use Rattle.standing_laws.specs.EarlierSheets.{NoneStands, emptyPremise, earlierRule, earlierRules, earlierSheet, earlierChoice}
 
 -- ---- two readings, the earlier first: they are the same, or the earlier is refused 6 and what is got now has not the property
 pub data Agrees {A : Type 0} (Had : A → Type 0) : Reading A → Reading A → Type 0 where
   same-got : {v : A} {next : ℕ} → Had v → Agrees Had (got v next) (got v next)
   same-refused : {number place : ℕ} → Agrees Had (refused number place) (refused number place)
   refused-empty : {r : Reading A} {place : ℕ} → ((v : A) (next : ℕ) → r ≡ got v next → Had v → ⊥) → Agrees Had (refused emptyPremise place) r
-
-refused-not-got : {A : Type 0} {number place next : ℕ} {v : A} → refused number place ≡ got v next → ⊥
-refused-not-got e = let z : _≡_ {A = ℕ} 0 1 = cc in omega arith
 
 -- one reading after another
 then-agrees : {A B : Type 0} {HadA : A → Type 0} {HadB : B → Type 0} {e r : Reading A} (f g : A → ℕ → Reading B) → Agrees HadA e r
@@ -42,7 +39,7 @@ then-agrees {A} {B} {HadA} {HadB} f g (refused-empty {r = r} lost) on back = ref
   where
     go : (r : Reading A) → ((v : A) (next : ℕ) → r ≡ got v next → HadA v → ⊥) → (w : B) (end : ℕ) → andThen r g ≡ got w end → HadB w → ⊥
     go (got v next) lost w end q h = lost v next refl (back v next w end q h)
-    go (refused number place) lost w end q h = refused-not-got q
+    go (refused number place) lost w end q h = got-not-refused (sym q)
 
 -- what is read in one way
 itself-agrees : {A : Type 0} {Had : A → Type 0} (r : Reading A) → ((v : A) (next : ℕ) → r ≡ got v next → Had v) → Agrees Had r r
@@ -66,7 +63,7 @@ module _ (facts : ℕ) (s : List ℕ) where
 
       premise-of : (p : ℕ) (r : Reading ℕ) (w : Rule) (end : ℕ) → concluded p r ≡ got w end → w .premise ≡ p
       premise-of p (got c next) w end e = cc
-      premise-of p (refused number place) w end e = absurd (refused-not-got e)
+      premise-of p (refused number place) w end e = absurd (got-not-refused (sym e))
 
       go : (p next : ℕ) (b : Bool) → eqb p 0 ≡ b
           → Agrees Starts (refusedIf b emptyPremise at (concluded p (setAt facts s next))) (concluded p (setAt facts s next))
@@ -87,7 +84,7 @@ module _ (facts : ℕ) (s : List ℕ) where
           → (x : Reading Rule) → andThen x (λ q next. recordsFrom (λ read p. ruleAt facts s p) n (read ++ (q ∷ [])) next) ≡ got rules end
           → List·Memᴰ r rules
       go on (got q next) i = on q next i
-      go on (refused number place) i = absurd (refused-not-got i)
+      go on (refused number place) i = absurd (got-not-refused (sym i))
 
   rules-agree : (n : ℕ) (read : List Rule) (at : ℕ) → NoneStands read
       → Agrees NoneStands (recordsFrom (λ read p. earlierRule facts s p) n read at) (recordsFrom (λ read p. ruleAt facts s p) n read at)
@@ -112,7 +109,7 @@ rules-are : (facts : ℕ) (s : List ℕ) (rules : List Rule) (q : ℕ) (sheet : 
 rules-are facts s rules q sheet end e = nodes (nodesAt facts rules s q) e
   where
     last : (b : Bool) (n : ℕ) (x : Sheet) → refusedIf b bytesLeft n (got x n) ≡ got sheet end → x ≡ sheet
-    last true n x i = absurd (refused-not-got i)
+    last true n x i = absurd (got-not-refused (sym i))
     last false n x i = cc
 
     starts : (nodes : _) (r : Reading (List Configuration))
@@ -120,14 +117,14 @@ rules-are facts s rules q sheet end e = nodes (nodesAt facts rules s q) e
         refusedIf (ltb n (length s)) bytesLeft n (got (record { facts = facts; rules = rules; nodes = nodes; starts = starts }) n)) ≡ got sheet end
         → sheet .rules ≡ rules
     starts nodes (got v n) i = ap (λ (x : Sheet). x .rules) (sym (last (ltb n (length s)) n _ i))
-    starts nodes (refused number place) i = absurd (refused-not-got i)
+    starts nodes (refused number place) i = absurd (got-not-refused (sym i))
 
     nodes : (r : Reading _) → andThen r (λ nodes t.
         andThen (startsAt facts rules nodes s t) (λ starts n.
         refusedIf (ltb n (length s)) bytesLeft n (got (record { facts = facts; rules = rules; nodes = nodes; starts = starts }) n))) ≡ got sheet end
         → sheet .rules ≡ rules
     nodes (got v t) i = starts v (startsAt facts rules v s t) i
-    nodes (refused number place) i = absurd (refused-not-got i)
+    nodes (refused number place) i = absurd (got-not-refused (sym i))
 
 -- Document 01's reading and that of card 2, for every byte string: the same, or 6 then and, where it is a sheet now, one with an empty premise.
 pub readings-agree : (s : List ℕ) → Agrees (λ sheet. NoneStands (sheet .rules)) (earlierSheet s) (readSheet s)
@@ -156,8 +153,8 @@ module _ (s : List ℕ) where
     where
       go : {x y : Reading Sheet} → Agrees (λ sheet. NoneStands (sheet .rules)) x y → x ≡ got sheet end → (y ≡ got sheet end) × NoneStands (sheet .rules)
       go (same-got {v = v} h) i = let q : v ≡ sheet = cc in (i, subst (λ (x : Sheet). NoneStands (x .rules)) q h)
-      go (same-refused) i = absurd (refused-not-got i)
-      go (refused-empty lost) i = absurd (refused-not-got i)
+      go (same-refused) i = absurd (got-not-refused (sym i))
+      go (refused-empty lost) i = absurd (got-not-refused (sym i))
 
   -- what was refused is refused by the same number at the same place, but for 6
   pub refusal-kept : (number place : ℕ) → earlierSheet s ≡ refused number place → (number ≡ emptyPremise → ⊥)
@@ -165,7 +162,7 @@ module _ (s : List ℕ) where
   refusal-kept number place e k = go (readings-agree s) e
     where
       go : {x y : Reading Sheet} → Agrees (λ sheet. NoneStands (sheet .rules)) x y → x ≡ refused number place → y ≡ refused number place
-      go (same-got h) i = absurd (refused-not-got (sym i))
+      go (same-got h) i = absurd (got-not-refused i)
       go (same-refused) i = i
       go (refused-empty lost) i = let q : number ≡ emptyPremise = cc in absurd (k q)
 

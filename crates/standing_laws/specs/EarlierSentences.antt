@@ -3,14 +3,12 @@
 use mathlib.Core.Path.{_≡_, ap}
 use mathlib.Core.List.{List, [], _∷_}
 use Prim.Native.Nat.{ℕ}
-use Rattle.stores.specs.FactSets.{Within}
-use Rattle.stores.specs.Stores.{Constraint, join, leastStore}
+use Rattle.stores.specs.Stores.{join, leastStore}
 use Rattle.store_laws.specs.StoreLaws.{least-store-empty}
 use Rattle.sheets.specs.Sheet.{tell, Configuration, Sheet}
-use Rattle.sheets.specs.WellFormed.{OfSheet}
-use Rattle.moves.specs.Moves.{Step, stepsOf, Moves, Reduces, add}
+use Rattle.moves.specs.Moves.{Step, stepsOf, Moves, Reduces}
 use Rattle.comparison.specs.SheetTransitions.{transitions}
-use Rattle.standing_laws.specs.EarlierSheets.{NoneStands, earlierTransitions}
+use Rattle.standing_laws.specs.EarlierSheets.{NoneStands, transitionsFrom, earlierTransitions}
 
 module _ (sheet : Sheet) (none : NoneStands (sheet .rules)) where
   -- nothing stands: the least store has no fact
@@ -31,15 +29,4 @@ module _ (sheet : Sheet) (none : NoneStands (sheet .rules)) where
 
   -- levels, bisimulations and rounds are over the same transitions
   pub transitions-as-before : transitions sheet ≡ earlierTransitions sheet
-  transitions-as-before =
-      ap (λ (a : ℕ). record {
-        Label = ℕ;
-        Constraint = Constraint (sheet .facts) (sheet .rules);
-        Below = Within;
-        least = a;
-        State = Configuration;
-        Of = OfSheet sheet;
-        add = add sheet;
-        SameBarbs = λ p q. p .store ≡ q .store;
-        Move = Moves sheet;
-      }) least-is-empty
+  transitions-as-before = ap (λ (a : ℕ). transitionsFrom a sheet) least-is-empty

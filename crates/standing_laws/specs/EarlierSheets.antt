@@ -4,15 +4,14 @@
 use mathlib.Core.Path.{_≡_}
 use mathlib.Core.List.{List, [], List·Memᴰ}
 use Prim.Native.Nat.{ℕ}
-use lib.ListN.{length}
-use lib.Dec.{eqb, leb, ltb}
+use lib.Dec.{eqb}
 use Rattle.stores.specs.FactSets.{Within}
 use Rattle.stores.specs.Stores.{Rule, Constraint}
 use Rattle.sheets.specs.SheetLimits.{maxRules}
-use Rattle.sheets.specs.Refusals.{manyRules, bytesLeft, absentStart}
+use Rattle.sheets.specs.Refusals.{manyRules}
 use Rattle.sheets.specs.Sheet.{Configuration, Sheet}
 use Rattle.sheets.specs.WellFormed.{OfSheet}
-use Rattle.sheet_reading.specs.Reading.{Reading, got, andThen, refusedIf, recordsFrom, countAt, setAt, factsAt, nodesAt, startsAt}
+use Rattle.sheet_reading.specs.Reading.{Reading, got, andThen, refusedIf, recordsFrom, countAt, setAt, factsAt, fromNodes, chosen}
 use Rattle.moves.specs.Moves.{Moves, add}
 use Rattle.refinement.specs.Refinement.{Transitions}
 
@@ -20,20 +19,24 @@ use Rattle.refinement.specs.Refinement.{Transitions}
 abbrev pub NoneStands : List Rule → Type 0
 NoneStands rules = (r : Rule) → List·Memᴰ r rules → r .premise ≡ 0 → ⊥
 
--- what levels, bisimulations and rounds were over: the same, with 0 for the least label
-abbrev pub earlierTransitions : Sheet → Transitions
-earlierTransitions sheet =
+-- what levels, bisimulations and rounds are over, with a given least label; `transitions` has the least store there
+abbrev pub transitionsFrom : ℕ → Sheet → Transitions
+transitionsFrom least sheet =
     record {
       Label = ℕ;
       Constraint = Constraint (sheet .facts) (sheet .rules);
       Below = Within;
-      least = 0;
+      least = least;
       State = Configuration;
       Of = OfSheet sheet;
       add = add sheet;
       SameBarbs = λ p q. p .store ≡ q .store;
       Move = Moves sheet;
     }
+
+-- what they were over: 0 is the least label
+abbrev pub earlierTransitions : Sheet → Transitions
+earlierTransitions sheet = transitionsFrom 0 sheet
 
 -- ---- document 01's reading
 -- 6: the premise of a rule is empty
@@ -50,19 +53,10 @@ earlierRule facts s at =
 abbrev pub earlierRules : ℕ → List ℕ → ℕ → Reading (List Rule)
 earlierRules facts s at = andThen (countAt 0 maxRules manyRules s at) (λ n next. recordsFrom (λ read p. earlierRule facts s p) n [] next)
 
--- the sections after the rules, and the end, as they are read now
-abbrev pub fromNodes : ℕ → List ℕ → List Rule → ℕ → Reading Sheet
-fromNodes facts s rules q =
-    andThen (nodesAt facts rules s q) (λ nodes t.
-    andThen (startsAt facts rules nodes s t) (λ starts end.
-    refusedIf (ltb end (length s)) bytesLeft end (got (record { facts = facts; rules = rules; nodes = nodes; starts = starts }) end)))
-
+-- the sections after the rules, and the end, are read as now
 abbrev pub earlierSheet : List ℕ → Reading Sheet
 earlierSheet s = andThen (factsAt s 0) (λ facts p. andThen (earlierRules facts s p) (fromNodes facts s))
 
--- the choice of two starts after it, as it is read now
+-- and so is the choice of two starts
 abbrev pub earlierChoice : List ℕ → ℕ → ℕ → Reading Sheet
-earlierChoice s left right =
-    andThen (earlierSheet s) (λ sheet end.
-    refusedIf (leb (length (sheet .starts)) left) absentStart 0
-    (refusedIf (leb (length (sheet .starts)) right) absentStart 1 (got sheet end)))
+earlierChoice s left right = andThen (earlierSheet s) (chosen left right)

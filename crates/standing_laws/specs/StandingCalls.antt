@@ -1,7 +1,7 @@
 -- A sheet and the same without its standing facts: the starts, the choice of two, and what a call makes of them.
 use mathlib.Core.Path.{_≡_, refl, sym, ap, ap₂, _∙_, subst}
 use mathlib.Core.Bool.{Bool, true, false, cond}
-use mathlib.Core.List.{List, [], _∷_, map, List·Memᴰ, List·Memᴰ·cases-cons, List·Memᴰ·not-nil}
+use mathlib.Core.List.{List, [], _∷_, map, map-id, map-map, List·Memᴰ, List·Memᴰ·cases-cons, List·Memᴰ·not-nil}
 use mathlib.Core.Logic.{⊎-elim}
 use Prim.Native.Nat.{ℕ, suc, _<_}
 use lib.ListN.{length, getD, length-map}
@@ -9,14 +9,13 @@ use lib.Dec.{leb}
 use borrow.Author.Tests.{leb-false}
 use Rattle.lists.specs.Lists.{sameNumbers}
 use Rattle.list_laws.specs.Members.{mem-map}
-use Rattle.list_laws.specs.ListPlaces.{getD-in, getD-image}
-use Rattle.list_laws.specs.ImageLaws.{map-image}
+use Rattle.list_laws.specs.ListPlaces.{getD-in, getD-image, map-alike}
 use Rattle.stores.specs.Stores.{leastStore}
 use Rattle.store_laws.specs.StoreLaws.{least-within}
 use Rattle.sheets.specs.Refusals.{absentStart}
 use Rattle.sheets.specs.Sheet.{Configuration, Sheet, start}
 use Rattle.sheets.specs.WellFormed.{Admissible}
-use Rattle.sheet_reading.specs.Reading.{Reading, got, refusedIf}
+use Rattle.sheet_reading.specs.Reading.{Reading, got, refusedIf, chosen}
 use Rattle.comparison.specs.CallLimits.{Limits}
 use Rattle.comparison.specs.Classes.{classOf, share}
 use Rattle.comparison.specs.Rounds.{classes, rounds, resultOf}
@@ -50,15 +49,9 @@ module _ (sheet : Sheet) (fine : Admissible sheet) where
       (raised-outside z (p .store) (least-within (sheet .rules) (p .store) (fine .starts-fit p m .store .closed)))
 
   pub starts-raised : map (raisedConfiguration z) (lower .starts) ≡ sheet .starts
-  starts-raised = go (sheet .starts) (λ p m. m)
-    where
-      go : (ps : List Configuration) → ((p : Configuration) → List·Memᴰ p ps → List·Memᴰ p (sheet .starts))
-          → map (raisedConfiguration z) (map (configurationWithout z) ps) ≡ ps
-      go ps h = map-image (configurationWithout z) (raisedConfiguration z) (λ p. p) (λ p. p) ps (λ p m. back p (h p m)) ∙ itself ps
-        where
-          itself : (ps : List Configuration) → map (λ p. p) (map (λ p. p) ps) ≡ ps
-          itself [] = refl
-          itself (p ∷ ps) = ap (λ (l : List Configuration). p ∷ l) (itself ps)
+  starts-raised =
+      map-map (raisedConfiguration z) (configurationWithout z) (sheet .starts)
+      ∙ map-alike (λ p. raisedConfiguration z (configurationWithout z p)) (λ p. p) (sheet .starts) back ∙ map-id (sheet .starts)
 
   pub starts-free : AllIn (Free z) (lower .starts)
   starts-free p m =
@@ -106,14 +99,11 @@ module _ (sheet : Sheet) (fine : Admissible sheet) where
         ∙ framed-raised raised-moves up bytes as-long l (p ∷ q ∷ []) (pair-free p q f g) (λ set. make lower set p q)
         (λ set. make sheet set (raisedConfiguration z p) (raisedConfiguration z q)) (made p q f g) work answer
 
-    -- the choice, and the call by it
-    abbrev chosen : Sheet → ℕ → Reading Sheet
-    chosen s end = refusedIf (leb (length (s .starts)) left) absentStart 0 (refusedIf (leb (length (s .starts)) right) absentStart 1 (got s end))
-
+    -- the call by the choice
     abbrev called : Reading Sheet → Outcome A
     called r = withSheet r (λ s. onPair s (start s left) (start s right))
 
-    pub choice-raised : (end lend : ℕ) → called (chosen sheet end) ≡ outcomeBy up (called (chosen lower lend))
+    pub choice-raised : (end lend : ℕ) → called (chosen left right sheet end) ≡ outcomeBy up (called (chosen left right lower lend))
     choice-raised end lend =
         rw (length-map (sheet .starts) (configurationWithout z))
         (go (leb (length (sheet .starts)) left) (leb (length (sheet .starts)) right) refl refl)
@@ -139,8 +129,9 @@ module _ (sheet : Sheet) (fine : Admissible sheet) where
 
       each : (cs : List ℕ) (ps : List Configuration) → map (classOf (map (raisedConfiguration z) set) cs) (map (raisedConfiguration z) ps)
           ≡ map (classOf set cs) ps
-      each cs [] = refl
-      each cs (p ∷ ps) = ap₂ (λ (n : ℕ) (ns : List ℕ). n ∷ ns) (classOf-raised z set cs p) (each cs ps)
+      each cs ps =
+          map-map (classOf (map (raisedConfiguration z) set) cs) (raisedConfiguration z) ps
+          ∙ map-alike (λ p. classOf (map (raisedConfiguration z) set) cs (raisedConfiguration z p)) (classOf set cs) ps (λ p m. classOf-raised z set cs p)
 
       starts : (rs : List (List ℕ)) → by sheet (map (raisedConfiguration z) set) rs ≡ raisedGrouping z (by lower set rs)
       starts rs =
