@@ -2,9 +2,10 @@
  * the quotation desk's (document 02, card 3), in the end or after so many rounds (document 02, card 13),
  * or all starts of a sheet together (document 02, card 1).
  *
- * Link with target/staticlib/libhofadiju.a, which `rt staticlib hofadiju` writes (x86-64 Linux). The
- * five functions keep no state: any number of threads may call them at the same time, each with its own
- * slices. They allocate nothing. c/compare.c is an example.
+ * Link with target/staticlib/libhofadiju.a, which `rt staticlib hofadiju` writes (x86-64 Linux). There are
+ * five calls, and a function that says which version of the library is linked. They keep no state: any
+ * number of threads may call them at the same time, each with its own slices. They allocate nothing.
+ * c/compare.c is an example.
  */
 #ifndef HOFADIJU_H
 #define HOFADIJU_H
@@ -15,6 +16,19 @@
 #ifdef __cplusplus
 extern "C" {
 #endif
+
+/* The version of the library that this header belongs to. */
+#define HOFADIJU_VERSION_MAJOR 0
+#define HOFADIJU_VERSION_MINOR 2
+#define HOFADIJU_VERSION_PATCH 0
+#define HOFADIJU_VERSION (10000 * HOFADIJU_VERSION_MAJOR + 100 * HOFADIJU_VERSION_MINOR + HOFADIJU_VERSION_PATCH)
+
+/* The version of the library that is linked, a number like HOFADIJU_VERSION. The library fits this header
+ * where the two are equal. It also fits where both have the same major number and the library is not older
+ * than the header; while the major number is 0, the minor number counts as the major one. c/compare.c has
+ * this as a function.
+ */
+uint32_t hofadiju_version(void);
 
 /* An answer slice of this many bytes always suffices for hofadiju_compare. */
 #define HOFADIJU_ANSWER_BYTES 10237

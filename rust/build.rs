@@ -14,11 +14,12 @@ fn main() {
     println!("cargo:rerun-if-env-changed=HOFADIJU_LIB_DIR");
     println!("cargo:rerun-if-changed={}", archive.display());
     if !archive.is_file() {
-        panic!(
+        eprintln!(
             "{} is missing: run `rt staticlib hofadiju` in the repository's top folder, or name the \
              folder that holds libhofadiju.a in HOFADIJU_LIB_DIR",
             archive.display()
         );
+        std::process::exit(1);
     }
     println!("cargo:rustc-link-search=native={}", folder.display());
     println!("cargo:rustc-link-lib=static=hofadiju");

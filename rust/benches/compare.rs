@@ -12,7 +12,7 @@
 //! after so many rounds beside the whole one, all by the library.
 
 use hofadiju::{
-    compare_all_into, compare_desk_into, compare_into, compare_rounds_into, Outcome, Refusal, ALL_ANSWER_BYTES,
+    compare_all_into, compare_desk_into, compare_into, compare_rounds_into, Error, Outcome, ALL_ANSWER_BYTES,
     ANSWER_BYTES, DESK_ANSWER_BYTES, ROUNDS_ANSWER_BYTES, WORK_NUMBERS,
 };
 use reference::{fast::Comparer, Limits, Returned};
@@ -33,7 +33,7 @@ struct Slices {
     work: Vec<u32>,
 }
 
-type CompareInto = fn(&[u8], usize, usize, &mut [u8], &mut [u32]) -> Result<Outcome, Refusal>;
+type CompareInto = fn(&[u8], usize, usize, &mut [u8], &mut [u32]) -> Result<Outcome, Error>;
 
 /// One of the library's calls: of two starts, with the reference's limits and the length of the answer
 /// slice, of all starts, or of two starts after so many rounds.
@@ -100,18 +100,23 @@ fn two_starts(
     slices: &mut Slices,
 ) -> Result<usize, u32> {
     let outcome = function(sheet, left, right, &mut slices.answer[..answer], &mut slices.work);
-    outcome.map(|outcome| outcome.length).map_err(|refusal| refusal.number())
+    outcome.map(|outcome| outcome.length).map_err(refused_by)
+}
+
+/// The number of a refusal that the crate knows.
+fn refused_by(error: Error) -> u32 {
+    error.refusal().unwrap_or_else(|| panic!("{error}")).number()
 }
 
 fn all_starts(sheet: &[u8], slices: &mut Slices) -> Result<usize, u32> {
     let outcome = compare_all_into(sheet, &mut slices.answer[..ALL_ANSWER_BYTES], &mut slices.work);
-    outcome.map(|outcome| outcome.length).map_err(|refusal| refusal.number())
+    outcome.map(|outcome| outcome.length).map_err(refused_by)
 }
 
 fn after_rounds(rounds: u64, sheet: &[u8], slices: &mut Slices) -> Result<usize, u32> {
     let answer = &mut slices.answer[..ROUNDS_ANSWER_BYTES];
     let outcome = compare_rounds_into(sheet, 0, 1, rounds, answer, &mut slices.work);
-    outcome.map(|outcome| outcome.length).map_err(|refusal| refusal.number())
+    outcome.map(|outcome| outcome.length).map_err(refused_by)
 }
 
 fn peer(call: Call, sheet: &[u8], slices: &mut Slices, comparer: &mut Comparer) -> Result<usize, u32> {

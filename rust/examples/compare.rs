@@ -7,11 +7,11 @@
 //! with --rounds after K rounds. Then it prints the verdict, the number of classes in that round and the
 //! number of members, and a line for each member. With --all it prints the number of classes among the
 //! starts and the round, and then a line for each group of starts that behave alike. The exit status is 0
-//! for SAME and for one group, 1 for DIFF and for more groups, 2 for a refusal, 3 where the words or the
-//! file cannot be read and 4 for OPEN.
+//! for SAME and for one group, 1 for DIFF and for more groups, 2 for a refusal, 3 where the words, the file
+//! or the library's answer cannot be read and 4 for OPEN.
 
 use hofadiju::{
-    compare, compare_all, compare_desk, compare_rounds, compare_rounds_desk, Grouping, Partition, Refusal, Report,
+    compare, compare_all, compare_desk, compare_rounds, compare_rounds_desk, Error, Grouping, Partition, Report,
     RoundsVerdict, Verdict,
 };
 use std::fmt::Display;
@@ -26,7 +26,11 @@ trait Said: Display {
 
 impl Said for Report {
     fn status(&self) -> u8 {
-        u8::from(self.verdict != Verdict::Same)
+        match self.verdict {
+            Verdict::Same => 0,
+            Verdict::Diff => 1,
+            _ => 3,
+        }
     }
 }
 
@@ -36,6 +40,7 @@ impl Said for Partition {
             RoundsVerdict::Same => 0,
             RoundsVerdict::Diff => 1,
             RoundsVerdict::Open => 4,
+            _ => 3,
         }
     }
 }
@@ -80,7 +85,7 @@ fn main() -> ExitCode {
 }
 
 /// Prints what is said of a file's sheet.
-fn printed<T: Said>(file: &str, compare: impl FnOnce(&[u8]) -> Result<T, Refusal>) -> ExitCode {
+fn printed<T: Said>(file: &str, compare: impl FnOnce(&[u8]) -> Result<T, Error>) -> ExitCode {
     let sheet = match std::fs::read(file) {
         Ok(sheet) => sheet,
         Err(error) => return failed(&format!("{file}: {error}")),
@@ -90,10 +95,15 @@ fn printed<T: Said>(file: &str, compare: impl FnOnce(&[u8]) -> Result<T, Refusal
             print!("{said}");
             ExitCode::from(said.status())
         }
-        Err(refusal) => {
-            println!("{}", refusal.line());
-            eprintln!("{file}: {refusal}");
-            ExitCode::from(2)
+        Err(error) => {
+            eprintln!("{file}: {error}");
+            match error.line() {
+                Some(line) => {
+                    println!("{line}");
+                    ExitCode::from(2)
+                }
+                None => ExitCode::from(3),
+            }
         }
     }
 }

@@ -48,7 +48,7 @@ impl Meter {
                 let members = u16::from_le_bytes([self.answer[0], self.answer[1]]);
                 format!("{:?} {}, {members} members", outcome.verdict, outcome.round)
             }
-            Err(refusal) => refusal.line(),
+            Err(error) => error.line().unwrap_or_else(|| error.to_string()),
         };
         (time, said)
     }

@@ -1,13 +1,14 @@
 //! Groupings: all starts of a sheet compared together, their values, bytes and text.
 
 use crate::report::{Bytes, Member};
-use crate::AllOutcome;
+use crate::{AllOutcome, MAX_STARTS, MIN_STARTS};
 use std::fmt;
 
 /// All starts of a sheet, compared together.
 ///
 /// Its text (`Display`) is `CLASSES`, the number of classes among the starts and the round, and then a
 /// line for each group of [`Grouping::groups`], every line ended by a line feed.
+#[non_exhaustive]
 #[derive(Clone, Debug, PartialEq, Eq, Hash)]
 pub struct Grouping {
     /// The number of the round in which the refinement came to rest.
@@ -41,9 +42,9 @@ pub(crate) fn from_bytes(outcome: &AllOutcome, bytes: &[u8]) -> Option<Grouping>
     let members = bytes.members()?;
     let mut classes = Vec::new();
     while !bytes.rest.is_empty() {
-        classes.push(usize::from(bytes.number()?));
+        classes.push(bytes.place()?);
     }
-    (2..=16).contains(&classes.len()).then_some(Grouping { round: outcome.round, members, classes })
+    (MIN_STARTS..=MAX_STARTS).contains(&classes.len()).then_some(Grouping { round: outcome.round, members, classes })
 }
 
 impl fmt::Display for Grouping {

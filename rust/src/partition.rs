@@ -1,10 +1,11 @@
 //! Partitions: two starts compared after so many rounds, their values, bytes and text.
 
 use crate::report::{Bytes, Member, Verdict};
-use crate::RoundsOutcome;
+use crate::{Error, RoundsOutcome};
 use std::fmt;
 
-/// What is known of two starts after so many rounds.
+/// What is known of two starts after so many rounds. Further cases may come, so a `match` has one for the rest.
+#[non_exhaustive]
 #[derive(Clone, Copy, Debug, PartialEq, Eq, Hash)]
 pub enum RoundsVerdict {
     /// The starts are in one class and no later round splits any: no watcher can tell them apart.
@@ -17,6 +18,16 @@ pub enum RoundsVerdict {
 }
 
 impl RoundsVerdict {
+    /// The verdict with this number in what the library returns.
+    pub(crate) fn from_number(number: usize) -> Result<RoundsVerdict, Error> {
+        match number {
+            0 => Ok(RoundsVerdict::Same),
+            1 => Ok(RoundsVerdict::Diff),
+            2 => Ok(RoundsVerdict::Open),
+            number => Err(Error::UnknownVerdict { number }),
+        }
+    }
+
     /// The verdict of [`compare`](crate::compare), and of every larger number of rounds; `None` where it is
     /// open.
     pub fn settled(self) -> Option<Verdict> {
@@ -32,6 +43,7 @@ impl RoundsVerdict {
 ///
 /// Its text (`Display`) is the verdict, the number of classes and the number of members, and then a line for
 /// each member as in a report's text, every line ended by a line feed.
+#[non_exhaustive]
 #[derive(Clone, Debug, PartialEq, Eq, Hash)]
 pub struct Partition {
     /// What is known of the two starts.

@@ -1,9 +1,10 @@
 //! Reports: their values, their bytes and their text.
 
-use crate::Outcome;
+use crate::{Error, Outcome, Set};
 use std::fmt;
 
-/// Whether two starts behave alike.
+/// Whether two starts behave alike. Further verdicts may come with other calls, so a `match` has a case for the rest.
+#[non_exhaustive]
 #[derive(Clone, Copy, Debug, PartialEq, Eq, Hash)]
 pub enum Verdict {
     /// No watcher can tell them apart, whatever is added to the store.
@@ -22,34 +23,37 @@ pub enum Side {
 }
 
 /// A configuration of a comparison's set, with its class.
+#[non_exhaustive]
 #[derive(Clone, Debug, PartialEq, Eq, Hash)]
 pub struct Member {
     /// The store: fact i has weight 2 to the power i. The facts that always stand are in every store.
-    pub store: u16,
+    pub store: Set,
     /// The threads as node numbers, ascending, repeats kept; at most eight.
-    pub threads: Vec<u8>,
+    pub threads: Vec<usize>,
     /// In a report and a grouping members behave alike exactly when they have the same class. In a
     /// [`Partition`](crate::Partition) it is the class of that round.
-    pub class: u16,
+    pub class: usize,
 }
 
 /// A step of a trail.
+#[non_exhaustive]
 #[derive(Clone, Copy, Debug, PartialEq, Eq, Hash)]
 pub struct Step {
     /// The side that moves.
     pub side: Side,
     /// The label of the move: what is added to the store first. Where nothing need be added it is the set
     /// of the facts that always stand, 0 on a sheet without such facts.
-    pub label: u16,
+    pub label: Set,
     /// Where the move leads: a position in [`Report::members`].
-    pub target: u16,
+    pub target: usize,
     /// Where the other side's best reply leads; `None` where it has no move with this label.
-    pub reply: Option<u16>,
+    pub reply: Option<usize>,
 }
 
 /// The report on two starts.
 ///
 /// Its text (`Display`) is what the program prints, every line ended by a line feed.
+#[non_exhaustive]
 #[derive(Clone, Debug, PartialEq, Eq, Hash)]
 pub struct Report {
     /// Whether the two starts behave alike.
@@ -84,6 +88,11 @@ impl Bytes<'_> {
         Some(u16::from_le_bytes([self.byte()?, self.byte()?]))
     }
 
+    /// A count, a class or a position.
+    pub(crate) fn place(&mut self) -> Option<usize> {
+        self.number().map(usize::from)
+    }
+
     /// The members, after their count.
     pub(crate) fn members(&mut self) -> Option<Vec<Member>> {
         let count = self.number()?;
@@ -93,8 +102,8 @@ impl Bytes<'_> {
     fn member(&mut self) -> Option<Member> {
         let store = self.number()?;
         let count = self.byte()?;
-        let threads = (0..count).map(|_| self.byte()).collect::<Option<Vec<u8>>>()?;
-        let class = self.number()?;
+        let threads = (0..count).map(|_| self.byte().map(usize::from)).collect::<Option<_>>()?;
+        let class = self.place()?;
         Some(Member { store, threads, class })
     }
 
@@ -105,23 +114,37 @@ impl Bytes<'_> {
             _ => return None,
         };
         let label = self.number()?;
-        let target = self.number()?;
+        let target = self.place()?;
         let reply = match self.number()? {
             u16::MAX => None,
-            place => Some(place),
+            place => Some(place.into()),
         };
         Some(Step { side, label, target, reply })
     }
 }
 
-/// The report with these bytes, where they are one and nothing is left over.
+/// The report with these bytes, where they are one, nothing is left over and every position is that of a member.
 pub(crate) fn from_bytes(outcome: &Outcome, bytes: &[u8]) -> Option<Report> {
     let mut bytes = Bytes { rest: bytes };
     let members = bytes.members()?;
     let count = bytes.number()?;
     let steps = (0..count).map(|_| bytes.step()).collect::<Option<Vec<Step>>>()?;
     let Outcome { verdict, round, left, right, length: _ } = *outcome;
-    bytes.rest.is_empty().then_some(Report { verdict, round, left, right, members, steps })
+    let within = |place: usize| place < members.len();
+    let steps_within = steps.iter().all(|step| within(step.target) && step.reply.is_none_or(within));
+    let whole = bytes.rest.is_empty() && within(left) && within(right) && steps_within;
+    whole.then_some(Report { verdict, round, left, right, members, steps })
+}
+
+impl Verdict {
+    /// The verdict with this number in what the library returns.
+    pub(crate) fn from_number(number: usize) -> Result<Verdict, Error> {
+        match number {
+            0 => Ok(Verdict::Same),
+            1 => Ok(Verdict::Diff),
+            number => Err(Error::UnknownVerdict { number }),
+        }
+    }
 }
 
 impl fmt::Display for Verdict {

@@ -5,7 +5,8 @@ mod common;
 
 use common::{CompareAll, EveryStart, Harness, ALL_ANSWER, WORK};
 use hofadiju::{
-    compare, compare_all, compare_into, Grouping, Member, Reason, Refusal, Report, Verdict, ANSWER_BYTES, WORK_NUMBERS,
+    compare, compare_all, compare_into, Error, Grouping, Member, Reason, Refusal, Report, Verdict, ANSWER_BYTES,
+    WORK_NUMBERS,
 };
 use reference::{plain, Judgement};
 use sheets::{alike_pair, damage, draw, sheet_k, variants, Draft, Rng, Shape, ASK, BOTH, EITHER, SHAPES, STOP, TELL};
@@ -31,7 +32,7 @@ fn grouping(draft: &Draft) -> Grouping {
 
 fn too_large(draft: &Draft) {
     assert_eq!(Harness::all(61).number(&draft.bytes()), (21, 0));
-    assert_eq!(compare_all(&draft.bytes()), Err(Refusal { reason: Reason::TooLarge, place: 0 }));
+    assert_eq!(compare_all(&draft.bytes()), Err(Refusal::new(Reason::TooLarge, 0).into()));
 }
 
 // Known groups
@@ -184,7 +185,8 @@ fn threads_at_the_limit() {
     draft.starts.push((0, vec![3, 1, 1, 1, 1, 1, 1, 1]));
     too_large(&draft);
     for other in 0..4 {
-        assert_eq!(compare(&draft.bytes(), other, 3).unwrap_err().reason, Reason::TooLarge);
+        let refusal = compare(&draft.bytes(), other, 3).unwrap_err().refusal().unwrap();
+        assert_eq!(refusal.reason, Reason::TooLarge);
     }
     assert!(compare(&draft.bytes(), 0, 1).is_ok());
 }
@@ -406,7 +408,7 @@ impl Beside {
         Beside { all, answer, work, sheets: 0, only_all_refused: 0, alike: 0, apart: 0 }
     }
 
-    fn report(&mut self, bytes: &[u8], left: usize, right: usize) -> Result<Report, Refusal> {
+    fn report(&mut self, bytes: &[u8], left: usize, right: usize) -> Result<Report, Error> {
         let outcome = compare_into(bytes, left, right, &mut self.answer, &mut self.work)?;
         Ok(outcome.report(&self.answer).unwrap())
     }
@@ -429,8 +431,8 @@ impl Beside {
                 assert_eq!(seen.len(), grouping.members.len(), "every member is one of some pair's");
                 assert_eq!(grouping.groups().concat().len(), starts);
             }
-            Err(refusal) => {
-                assert_eq!(refusal, Refusal { reason: Reason::TooLarge, place: 0 });
+            Err(error) => {
+                assert_eq!(error, Refusal::new(Reason::TooLarge, 0).into());
                 let reports = pairs.filter(|&(left, right)| self.report(&bytes, left, right).is_ok()).count();
                 self.only_all_refused += usize::from(reports == starts * (starts + 1) / 2);
             }
@@ -454,13 +456,13 @@ impl Beside {
             assert_eq!(*back.entry(class).or_insert(member.class), member.class, "starts {left} {right}");
         }
         for (place, start) in [(report.left, left), (report.right, right)] {
-            assert_eq!(class_in(grouping, &report.members[place]) as usize, grouping.classes[start]);
+            assert_eq!(class_in(grouping, &report.members[place]), grouping.classes[start]);
         }
     }
 }
 
 /// The class in a grouping of a configuration that a report has.
-fn class_in(grouping: &Grouping, member: &Member) -> u16 {
+fn class_in(grouping: &Grouping, member: &Member) -> usize {
     let key = |member: &Member| (member.store, member.threads.len(), member.threads.clone());
     let place = grouping.members.binary_search_by_key(&key(member), key).expect("a member of the larger set");
     grouping.members[place].class
@@ -493,7 +495,7 @@ fn a_sheet_of_two_starts() {
         let bytes = draft.bytes();
         match (compare_all(&bytes), compare(&bytes, 0, 1)) {
             (Ok(grouping), Ok(report)) => {
-                let class = |place: usize| report.members[place].class as usize;
+                let class = |place: usize| report.members[place].class;
                 assert_eq!(grouping.classes, [class(report.left), class(report.right)]);
                 assert_eq!(grouping.members, report.members);
                 assert!(report.verdict == Verdict::Diff || grouping.round == report.round);

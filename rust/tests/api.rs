@@ -2,9 +2,9 @@
 
 use hofadiju::{
     compare, compare_all, compare_all_into, compare_desk, compare_desk_into, compare_into, compare_rounds,
-    compare_rounds_desk, compare_rounds_desk_into, compare_rounds_into, AllOutcome, Outcome, Partition, Reason,
-    Refusal, Report, RoundsOutcome, RoundsVerdict, Side, Verdict, ALL_ANSWER_BYTES, ANSWER_BYTES, DESK_ANSWER_BYTES,
-    DESK_ROUNDS_ANSWER_BYTES, ROUNDS_ANSWER_BYTES, WORK_NUMBERS,
+    compare_rounds_desk, compare_rounds_desk_into, compare_rounds_into, library_version, AllOutcome, Error, Outcome,
+    Partition, Reason, Refusal, Report, RoundsOutcome, RoundsVerdict, Side, Verdict, ALL_ANSWER_BYTES, ANSWER_BYTES,
+    DESK_ANSWER_BYTES, DESK_ROUNDS_ANSWER_BYTES, LONGEST_SHEET, ROUNDS_ANSWER_BYTES, VERSION, WORK_NUMBERS,
 };
 use sheets::{alike_pair, variants, Draft, Rng, ASK, SHAPES, STOP};
 use std::path::Path;
@@ -73,7 +73,7 @@ fn samples() {
         assert_eq!(outcome, compare_desk(&sheet, 0, 1));
         let printed = match outcome {
             Ok(report) => report.to_string(),
-            Err(refusal) => refusal.line() + "\n",
+            Err(error) => error.line().unwrap() + "\n",
         };
         let expected = std::fs::read_to_string(path.with_extension("report")).unwrap();
         assert_eq!(printed, expected, "{}", path.display());
@@ -105,22 +105,26 @@ fn reasons_have_numbers_and_texts() {
         let reason = Reason::from_number(number);
         assert_eq!(reason.is_some(), matches!(number, 1..=5 | 7..=15 | 21..=23));
         let Some(reason) = reason else { continue };
-        let refusal = Refusal { reason, place: 1 };
+        let refusal = Refusal::new(reason, 1);
         assert_eq!(refusal.number(), number);
         assert_eq!(refusal.line(), format!("REFUSED {number} 1"));
         assert!(refusal.to_string().len() > 20);
+        let error = Error::from(refusal);
+        assert_eq!((error.refusal(), error.line()), (Some(refusal), Some(refusal.line())));
+        assert_eq!(error.to_string(), refusal.to_string());
     }
     let texts: std::collections::HashSet<String> =
-        Reason::ALL.iter().map(|&reason| Refusal { reason, place: 0 }.to_string()).collect();
+        Reason::ALL.iter().map(|&reason| Refusal::new(reason, 0).to_string()).collect();
     assert_eq!(texts.len(), Reason::ALL.len());
-    let refusal = compare(&[], 0, 0).unwrap_err();
+    let error = compare(&[], 0, 0).unwrap_err();
+    let refusal = error.refusal().unwrap();
     assert_eq!((refusal.reason, refusal.place), (Reason::CutOff, 0));
-    let error: Box<dyn std::error::Error> = Box::new(refusal);
-    assert!(error.to_string().contains("only 0 bytes"));
+    let errors: [Box<dyn std::error::Error>; 2] = [Box::new(error), Box::new(refusal)];
+    assert!(errors.iter().all(|error| error.to_string().contains("only 0 bytes")));
 }
 
-type Compare = fn(&[u8], usize, usize) -> Result<Report, Refusal>;
-type CompareInto = fn(&[u8], usize, usize, &mut [u8], &mut [u32]) -> Result<Outcome, Refusal>;
+type Compare = fn(&[u8], usize, usize) -> Result<Report, Error>;
+type CompareInto = fn(&[u8], usize, usize, &mut [u8], &mut [u32]) -> Result<Outcome, Error>;
 
 #[test]
 fn the_two_functions_agree() {
@@ -146,7 +150,7 @@ fn functions_agree(compare: Compare, compare_into: CompareInto, room: usize) {
                 assert_eq!(text.lines().count(), lines);
                 assert!(text.ends_with('\n'));
             }
-            (Err(refusal), Err(other)) => assert_eq!(refusal, other),
+            (Err(error), Err(other)) => assert_eq!(error, other),
             _ => panic!("one of the two is refused: {bytes:?}"),
         }
     }
@@ -165,8 +169,10 @@ fn the_two_functions_for_all_starts_agree() {
             (Ok(grouping), Ok(outcome)) => {
                 assert_eq!(outcome.grouping(&answer).as_ref(), Some(&grouping));
                 assert_eq!(outcome.grouping(&answer[..outcome.length - 1]), None);
-                let AllOutcome { round, length } = outcome;
-                assert_eq!(AllOutcome { round, length: length - 1 }.grouping(&answer), None);
+                let length = outcome.length;
+                let mut shorter = outcome;
+                shorter.length -= 1;
+                assert_eq!(shorter.grouping(&answer), None);
                 let threads: usize = grouping.members.iter().map(|member| member.threads.len()).sum();
                 assert_eq!(length, 2 + 5 * grouping.members.len() + threads + 2 * draft.starts.len());
                 groups_are_the_classes(&grouping.classes, &grouping.groups());
@@ -175,7 +181,7 @@ fn the_two_functions_for_all_starts_agree() {
                 assert_eq!(text.lines().count(), lines);
                 assert!(text.ends_with('\n'));
             }
-            (Err(refusal), Err(other)) => assert_eq!(refusal, other),
+            (Err(error), Err(other)) => assert_eq!(error, other),
             _ => panic!("one of the two is refused: {bytes:?}"),
         }
     }
@@ -193,9 +199,56 @@ fn groups_are_the_classes(classes: &[usize], groups: &[Vec<usize>]) {
     assert!(groups.is_sorted_by_key(|group| group[0]));
 }
 
+/// What the three kinds of calls give on a sheet with one node, a stop, and two starts without threads, for tests
+/// that change it.
+fn some_outcomes() -> (Outcome, AllOutcome, RoundsOutcome) {
+    let sheet = [0, 0, 1, 0, 0, 0, 0, 0, 2, 0, 0, 0, 0, 0, 0];
+    let (mut answer, mut work) = ([0; 16], vec![0; WORK_NUMBERS]);
+    let two = compare_into(&sheet, 0, 1, &mut answer, &mut work).unwrap();
+    let all = compare_all_into(&sheet, &mut answer, &mut work).unwrap();
+    let after = compare_rounds_into(&sheet, 0, 1, 0, &mut answer, &mut work).unwrap();
+    (two, all, after)
+}
+
+#[test]
+fn bytes_that_are_no_report() {
+    let report = |left: usize, right: usize, bytes: &[u8]| {
+        let mut outcome = some_outcomes().0;
+        (outcome.left, outcome.right, outcome.length) = (left, right, bytes.len());
+        outcome.report(bytes)
+    };
+    // Two members without threads, and no step.
+    let bytes = [2, 0, 0, 0, 0, 0, 0, 1, 0, 0, 1, 0, 0, 0];
+    assert_eq!(report(0, 1, &bytes).unwrap().members.len(), 2);
+    for (left, right) in [(2, 1), (0, 2), (usize::MAX, 0), (0, usize::MAX)] {
+        assert_eq!(report(left, right, &bytes), None);
+    }
+    assert_eq!(report(0, 0, &[0, 0, 0, 0]), None);
+    for end in 0..bytes.len() {
+        assert_eq!(report(0, 1, &bytes[..end]), None);
+    }
+    assert_eq!(report(0, 1, &[&bytes[..], &[0]].concat()), None);
+    // One step more: its side, its label, its target and the reply.
+    let step = |step: [u8; 7]| report(0, 1, &[&bytes[..12], &[1, 0], &step].concat());
+    let told = step([1, 4, 1, 1, 0, 255, 255]).unwrap().steps[0];
+    assert_eq!((told.side, told.label, told.target, told.reply), (Side::Right, 0x104, 1, None));
+    assert_eq!(step([0, 0, 0, 0, 0, 1, 0]).unwrap().steps[0].reply, Some(1));
+    for wrong in [[2, 0, 0, 0, 0, 0, 0], [0, 0, 0, 2, 0, 0, 0], [0, 0, 0, 0, 1, 0, 0], [0, 0, 0, 0, 0, 254, 255]] {
+        assert_eq!(step(wrong), None);
+    }
+    // The length is longer than the slice.
+    let mut outcome = some_outcomes().0;
+    outcome.length = usize::MAX;
+    assert_eq!(outcome.report(&bytes), None);
+}
+
 #[test]
 fn bytes_that_are_no_grouping() {
-    let grouping = |bytes: &[u8]| AllOutcome { round: 0, length: bytes.len() }.grouping(bytes);
+    let grouping = |bytes: &[u8]| {
+        let mut outcome = some_outcomes().1;
+        outcome.length = bytes.len();
+        outcome.grouping(bytes)
+    };
     // No member, and the classes of 1 to 17 starts.
     for starts in 1..=17 {
         assert_eq!(grouping(&vec![0; 2 + 2 * starts]).is_some(), (2..=16).contains(&starts));
@@ -205,8 +258,8 @@ fn bytes_that_are_no_grouping() {
     }
 }
 
-type CompareRounds = fn(&[u8], usize, usize, u64) -> Result<Partition, Refusal>;
-type CompareRoundsInto = fn(&[u8], usize, usize, u64, &mut [u8], &mut [u32]) -> Result<RoundsOutcome, Refusal>;
+type CompareRounds = fn(&[u8], usize, usize, u64) -> Result<Partition, Error>;
+type CompareRoundsInto = fn(&[u8], usize, usize, u64, &mut [u8], &mut [u32]) -> Result<RoundsOutcome, Error>;
 
 #[test]
 fn the_two_functions_after_rounds_agree() {
@@ -226,10 +279,12 @@ fn functions_after_rounds_agree(compare: CompareRounds, compare_into: CompareRou
         match (compare(&bytes, 0, 1, rounds), outcome) {
             (Ok(partition), Ok(outcome)) => {
                 assert_eq!(outcome.partition(&answer).as_ref(), Some(&partition));
-                let RoundsOutcome { verdict, classes, members, length } = outcome;
+                let RoundsOutcome { verdict, classes, members, length, .. } = outcome;
                 assert_eq!(outcome.partition(&answer[..length - 1]), None);
                 for (members, length) in [(members, length - 1), (members - 1, length), (members + 1, length)] {
-                    assert_eq!(RoundsOutcome { verdict, classes, members, length }.partition(&answer), None);
+                    let mut changed = outcome;
+                    (changed.members, changed.length) = (members, length);
+                    assert_eq!(changed.partition(&answer), None);
                 }
                 assert_eq!((verdict, classes), (partition.verdict, partition.classes));
                 let threads: usize = partition.members.iter().map(|member| member.threads.len()).sum();
@@ -239,7 +294,7 @@ fn functions_after_rounds_agree(compare: CompareRounds, compare_into: CompareRou
                 assert_eq!(text.lines().count(), 1 + members);
                 verdicts[verdict as usize] += 1;
             }
-            (Err(refusal), Err(other)) => assert_eq!(refusal, other),
+            (Err(error), Err(other)) => assert_eq!(error, other),
             _ => panic!("one of the two is refused: {bytes:?}"),
         }
     }
@@ -249,7 +304,9 @@ fn functions_after_rounds_agree(compare: CompareRounds, compare_into: CompareRou
 #[test]
 fn bytes_that_are_no_partition() {
     let partition = |members: usize, bytes: &[u8]| {
-        RoundsOutcome { verdict: RoundsVerdict::Open, classes: 1, members, length: bytes.len() }.partition(bytes)
+        let mut outcome = some_outcomes().2;
+        (outcome.members, outcome.length) = (members, bytes.len());
+        outcome.partition(bytes)
     };
     assert!(partition(0, &[0, 0]).is_some());
     assert!(partition(1, &[1, 0, 0, 0, 0, 0, 0]).is_some());
@@ -274,7 +331,7 @@ fn the_desk_reports_the_same_or_is_too_large() {
     for i in 0..2_000 {
         let bytes = alike_pair(&SHAPES[i % SHAPES.len()], &mut rng).bytes();
         match (compare_desk(&bytes, 0, 1), compare(&bytes, 0, 1)) {
-            (Err(Refusal { reason: Reason::TooLarge, place: 0 }), Ok(_)) => too_large += 1,
+            (Err(error), Ok(_)) if error == Refusal::new(Reason::TooLarge, 0).into() => too_large += 1,
             (desk, other) => {
                 assert_eq!(desk, other);
                 reports += usize::from(desk.is_ok());
@@ -289,23 +346,23 @@ fn short_slices() {
     let bytes = sheet_k((0, &[2]), (0, &[4]));
     let mut work = vec![7; WORK_NUMBERS];
     let refusal = compare_into(&bytes, 0, 1, &mut [], &mut work).unwrap_err();
-    assert_eq!(refusal, Refusal { reason: Reason::AnswerShort, place: 38 });
+    assert_eq!(refusal, Refusal::new(Reason::AnswerShort, 38).into());
     assert!(work.iter().all(|&number| number == 0));
     let refusal = compare_into(&bytes, 0, 1, &mut [], &mut []).unwrap_err();
-    assert_eq!(refusal, Refusal { reason: Reason::WorkShort, place: 0 });
+    assert_eq!(refusal, Refusal::new(Reason::WorkShort, 0).into());
     let refusal = compare_desk_into(&bytes, 0, 1, &mut [], &mut work).unwrap_err();
-    assert_eq!(refusal, Refusal { reason: Reason::AnswerShort, place: 38 });
+    assert_eq!(refusal, Refusal::new(Reason::AnswerShort, 38).into());
     let refusal = compare_desk_into(&bytes, 0, 1, &mut [], &mut []).unwrap_err();
-    assert_eq!(refusal, Refusal { reason: Reason::WorkShort, place: 0 });
+    assert_eq!(refusal, Refusal::new(Reason::WorkShort, 0).into());
     let refusal = compare_all_into(&bytes, &mut [], &mut work).unwrap_err();
-    assert_eq!(refusal, Refusal { reason: Reason::AnswerShort, place: 40 });
+    assert_eq!(refusal, Refusal::new(Reason::AnswerShort, 40).into());
     let refusal = compare_all_into(&bytes, &mut [], &mut []).unwrap_err();
-    assert_eq!(refusal, Refusal { reason: Reason::WorkShort, place: 0 });
+    assert_eq!(refusal, Refusal::new(Reason::WorkShort, 0).into());
     for compare_rounds_into in [compare_rounds_into, compare_rounds_desk_into] {
         let refusal = compare_rounds_into(&bytes, 0, 1, 0, &mut [], &mut work).unwrap_err();
-        assert_eq!(refusal, Refusal { reason: Reason::AnswerShort, place: 36 });
+        assert_eq!(refusal, Refusal::new(Reason::AnswerShort, 36).into());
         let refusal = compare_rounds_into(&bytes, 0, 1, 0, &mut [], &mut []).unwrap_err();
-        assert_eq!(refusal, Refusal { reason: Reason::WorkShort, place: 0 });
+        assert_eq!(refusal, Refusal::new(Reason::WorkShort, 0).into());
     }
 }
 
@@ -326,4 +383,48 @@ fn threads_call_at_the_same_time() {
             });
         }
     });
+}
+
+/// What the header gives this name: the word behind it, or behind it and an equals sign.
+fn in_header(name: &str) -> u32 {
+    let header = Path::new(env!("CARGO_MANIFEST_DIR")).join("../include/hofadiju.h");
+    let header = std::fs::read_to_string(header).unwrap();
+    let mut words = header.split_whitespace().skip_while(|&word| word != name).skip(1);
+    let value = words.find(|&word| word != "=").unwrap_or_else(|| panic!("{name} is not there"));
+    value.trim_end_matches(',').parse().unwrap_or_else(|_| panic!("{name} is {value}"))
+}
+
+#[test]
+fn versions() {
+    let number = |[major, minor, patch]: [u32; 3]| 10_000 * major + 100 * minor + patch;
+    let header = ["HOFADIJU_VERSION_MAJOR", "HOFADIJU_VERSION_MINOR", "HOFADIJU_VERSION_PATCH"].map(in_header);
+    let package = [env!("CARGO_PKG_VERSION_MAJOR"), env!("CARGO_PKG_VERSION_MINOR"), env!("CARGO_PKG_VERSION_PATCH")];
+    assert_eq!(VERSION, library_version());
+    assert_eq!(VERSION, number(header));
+    assert_eq!(VERSION, number(package.map(|part| part.parse().unwrap())));
+}
+
+#[test]
+fn numbers_of_the_header() {
+    let numbers = [
+        ("HOFADIJU_ANSWER_BYTES", ANSWER_BYTES),
+        ("HOFADIJU_DESK_ANSWER_BYTES", DESK_ANSWER_BYTES),
+        ("HOFADIJU_ALL_ANSWER_BYTES", ALL_ANSWER_BYTES),
+        ("HOFADIJU_ROUNDS_ANSWER_BYTES", ROUNDS_ANSWER_BYTES),
+        ("HOFADIJU_DESK_ROUNDS_ANSWER_BYTES", DESK_ROUNDS_ANSWER_BYTES),
+        ("HOFADIJU_WORK_NUMBERS", WORK_NUMBERS),
+        ("HOFADIJU_LONGEST_SHEET", LONGEST_SHEET),
+    ];
+    for (name, number) in numbers {
+        assert_eq!(in_header(name) as usize, number, "{name}");
+    }
+    // TooManyFacts is HOFADIJU_TOO_MANY_FACTS there.
+    for reason in Reason::ALL {
+        let mut name = "HOFADIJU".to_string();
+        for letter in format!("{reason:?}").chars() {
+            name += if letter.is_uppercase() { "_" } else { "" };
+            name.push(letter.to_ascii_uppercase());
+        }
+        assert_eq!(in_header(&name), reason.number(), "{name}");
+    }
 }

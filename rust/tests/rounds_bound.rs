@@ -27,7 +27,7 @@ fn partition(draft: &Draft, rounds: u64) -> Partition {
 
 /// The verdict, the number of classes and the number of members of starts 0 and 1.
 fn said(draft: &Draft, rounds: u64) -> (RoundsVerdict, usize, usize) {
-    let Partition { verdict, classes, members } = partition(draft, rounds);
+    let Partition { verdict, classes, members, .. } = partition(draft, rounds);
     (verdict, classes, members.len())
 }
 
@@ -60,12 +60,12 @@ fn members_and_classes_of_sheet_k() {
 #[test]
 fn a_chain_of_63_rounds() {
     let draft = deepest_chain();
-    let classes = |rounds: u64| partition(&draft, rounds).members.iter().map(|m| m.class).collect::<Vec<u16>>();
+    let classes = |rounds: u64| partition(&draft, rounds).members.iter().map(|m| m.class).collect::<Vec<usize>>();
     for (rounds, verdict) in [(0, Open), (1, Open), (31, Open), (62, Open), (63, Diff), (64, Diff), (u64::MAX, Diff)] {
         let parted = rounds.min(63) as usize;
         assert_eq!(said(&draft, rounds), (verdict, parted + 1, 64));
         // By round n those have parted that have fewer than n asks to go.
-        assert_eq!(classes(rounds), (0..64).map(|asks: u16| asks.min(parted as u16)).collect::<Vec<_>>());
+        assert_eq!(classes(rounds), (0..64).map(|asks| parted.min(asks)).collect::<Vec<_>>());
     }
     for rounds in LARGE {
         assert_eq!(said(&draft, rounds), (Diff, 64, 64));
@@ -452,9 +452,9 @@ fn numbered_by_first_member(partition: &Partition) -> bool {
     let mut next = 0;
     partition.members.iter().all(|member| {
         let new = member.class == next;
-        next += u16::from(new);
+        next += usize::from(new);
         new || member.class < next
-    }) && usize::from(next) == partition.classes
+    }) && next == partition.classes
 }
 
 /// Counts over all sheets and numbers of rounds.
@@ -546,6 +546,7 @@ impl EveryRound {
             (Diff, _) => &mut counts.diff,
             (Open, Verdict::Same) => &mut counts.open_same,
             (Open, Verdict::Diff) => &mut counts.open_diff,
+            (verdict, end) => panic!("{verdict:?} {end:?}"),
         };
         *count += 1;
         counts.diff_before_rest += usize::from(partition.verdict == Diff && rounds < *last);

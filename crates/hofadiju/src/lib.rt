@@ -1,5 +1,6 @@
 // The library for callers in C and Rust, over numbers and slices: document 01's call, the desk's, the call for all starts, and the call for
-// so many rounds. include/hofadiju.h declares them.
+// so many rounds; and the library's version. include/hofadiju.h declares them.
+ghost use mathlib.Core.Path.{_≡_};
 ghost use lib.ListN.{length};
 ghost use Rattle.comparison.specs.Call.{compare, compareDesk};
 ghost use Rattle.answer_numbers.specs.AnswerNumbers.{Handed};
@@ -7,6 +8,15 @@ ghost use Rattle.all_starts.specs.Grouping.{compareAll};
 ghost use Rattle.all_numbers.specs.AllNumbers.{HandedAll};
 ghost use Rattle.after_rounds.specs.AfterRounds.{compareRounds, compareRoundsDesk};
 ghost use Rattle.rounds_numbers.specs.RoundsNumbers.{HandedRounds};
+ghost use Rattle.library_version.specs.LibraryVersion.{libraryVersion};
+
+// The version, to be compared with HOFADIJU_VERSION of the header.
+#[no_mangle]
+pub extern "C" fn hofadiju_version() -> u32
+    ensures { λ k. ⌜ k ≡ libraryVersion ⌝ }
+{
+    library_version::library_version()
+}
 
 // Document 01's call. It returns 0 for a report, else the refusal's number; the result has verdict, round, the places of both
 // starts, the report's length and the refusal's place, each 0 where it does not apply.

@@ -1,7 +1,7 @@
 //! Document 01, plainly: in its order and its words, with no thought of speed. Card 2 of document 02 changes
 //! it in place: a premise may be empty, and the least store, which labels a tell and a reduction, is the
 //! closure of nothing. At the end stand two other cards: card 1, all starts of a sheet compared together, and
-//! card 13, two starts after so many rounds.
+//! card 13, two starts after so many rounds; and the moves of single configurations.
 
 use crate::{Judgement, Limits};
 use std::collections::{BTreeMap, BTreeSet, HashMap};
@@ -693,6 +693,47 @@ fn after_rounds(set: Explored, left: usize, right: usize, k: u64) -> Judgement<5
 /// What document 02 says, within these limits, about these bytes and these two starts after k rounds.
 pub fn judge_rounds(limits: Limits, bytes: &[u8], left: usize, right: usize, k: u64) -> Judgement<5> {
     judge_two(limits, bytes, (left, right), |set, left, right| after_rounds(set, left, right, k))
+}
+
+// Single moves, for those who follow a trail
+
+/// A configuration by its store and its threads in ascending order.
+pub type Stand = (u16, Vec<usize>);
+
+fn stand(of: &Configuration) -> Stand {
+    (of.store, of.threads.clone())
+}
+
+/// A sheet whose configurations can be moved one by one.
+pub struct Follower<'a>(Moving<'a>);
+
+impl Follower<'_> {
+    /// The least store.
+    pub fn least(&self) -> u16 {
+        self.0.least()
+    }
+
+    /// A start of the sheet.
+    pub fn start(&self, start: usize) -> Option<Stand> {
+        self.0.sheet.starts.get(start).map(stand)
+    }
+
+    /// A configuration with a constraint added.
+    pub fn added(&self, (store, threads): &Stand, constraint: u16) -> Stand {
+        (self.0.join(*store, constraint), threads.clone())
+    }
+
+    /// The labelled moves of a configuration; `None` where a limit is passed.
+    pub fn moves(&mut self, (store, threads): &Stand) -> Option<Vec<(u16, Stand)>> {
+        let moves = self.0.moves(&configuration(*store, threads.clone())).ok()?;
+        Some(moves.iter().map(|(label, target)| (*label, stand(target))).collect())
+    }
+}
+
+/// What is found by following the moves of a sheet, where it is read.
+pub fn follow<T>(bytes: &[u8], by: impl FnOnce(&mut Follower) -> T) -> Option<T> {
+    let sheet = read(bytes).ok()?;
+    Some(by(&mut Follower(Moving::new(&sheet, Limits::DOCUMENT))))
 }
 
 // Sizes
