@@ -17,7 +17,8 @@ struct Marks {
 pub fn graph(of: &Comparison) -> String {
     let mut text = String::from("digraph hofadiju {\n");
     text.push_str("  graph [rankdir=LR, labelloc=t, fontname=\"Helvetica\", label=");
-    let _ = writeln!(text, "{}];", quoted(&title(of)));
+    let marks = marks(of);
+    let _ = writeln!(text, "{}];", quoted(&title(of, &marks)));
     text.push_str("  node [shape=box, style=\"rounded,filled\", fontname=\"Helvetica\"];\n");
     text.push_str("  edge [fontname=\"Helvetica\"];\n");
     for (position, member) in of.report.members.iter().enumerate() {
@@ -27,7 +28,6 @@ pub fn graph(of: &Comparison) -> String {
         let colour = colour(member.class);
         let _ = writeln!(text, "  m{position} [label={}, fillcolor=\"{colour}\"{pen}];", quoted(&label));
     }
-    let marks = marks(of);
     for (from, moves) in of.behaviour.moves.iter().enumerate() {
         for (place, edge) in moves.iter().enumerate() {
             let mut label = words::set(of.sheet, edge.label);
@@ -51,19 +51,24 @@ pub fn graph(of: &Comparison) -> String {
     text
 }
 
-fn title(of: &Comparison) -> String {
+/// The starts, the verdict, and what the colours and lines that are drawn mean.
+fn title(of: &Comparison, marks: &HashMap<(usize, Set, usize), Marks>) -> String {
     let starts = of.sheet.starts();
     let verdict = format!("{} {}", of.report.verdict, of.report.round);
     let mut title =
         format!("{} and {}: {verdict}\none colour for each class", starts[of.left].name, starts[of.right].name);
-    if !of.report.steps.is_empty() {
+    if !marks.is_empty() {
         title.push_str(", red: the trail");
     }
-    if of.report.steps.iter().any(|step| step.reply.is_some()) {
+    if marks.values().any(|marks| marks.taken.is_empty()) {
         title.push_str(", dashed: its answers");
     }
-    let all = of.behaviour.moves.iter().enumerate();
-    if all.into_iter().any(|(from, moves)| (0..moves.len()).any(|place| of.behaviour.redundant(from, place))) {
+    let dotted = |from: usize, place: usize| {
+        let edge = &of.behaviour.moves[from][place];
+        of.behaviour.redundant(from, place) && !marks.contains_key(&(from, edge.label, edge.target))
+    };
+    let mut members = 0..of.behaviour.moves.len();
+    if members.any(|from| (0..of.behaviour.moves[from].len()).any(|place| dotted(from, place))) {
         title.push_str(", dotted: redundant moves");
     }
     title

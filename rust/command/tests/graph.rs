@@ -185,10 +185,10 @@ fn graphs_have_members_classes_moves_and_the_trail() {
         let line = text.lines().find(|line| line.starts_with("  graph [")).unwrap();
         let title = attribute(line, "label").unwrap();
         assert!(title.starts_with(&format!("s0 and s1: {} {}\n", report.verdict, report.round)), "{title}");
-        let replied = report.steps.iter().any(|step| step.reply.is_some());
         assert_eq!(title.contains("red: the trail"), !report.steps.is_empty(), "{title}");
-        assert_eq!(title.contains("dashed: its answers"), replied, "{title}");
-        assert_eq!(title.contains("dotted: redundant moves"), redundant, "{title}");
+        assert_eq!(title.contains("dashed: its answers"), text.contains("style=dashed"), "{title}");
+        assert_eq!(title.contains("dotted: redundant moves"), text.contains("style=dotted"), "{title}");
+        assert!(redundant || !text.contains("style=dotted"), "{title}");
         held.moves += edges.len();
         held.trails += usize::from(!report.steps.is_empty());
         held.dashed += edges.values().filter(|of| of.dashed).count();
