@@ -17,6 +17,7 @@ import tempfile
 SNAKE = "/opt/rattle/port/notes/2026-11-18-names-are-in-snake-case/snake.py"
 WORD = re.compile(r'[^\s(){}.;,@"«»]+')
 DECLARED = re.compile(r"^( *)((?:(?:abbrev|unfoldable|opaque|pub|record|data|package) )*)([^\s:(){}\[\].,;]+)((?: +[^\s:=]+| *\([^()]*(?:\([^()]*\)[^()]*)*\)| *\{[^{}]*\})*) :(?= |$)", re.M)
+OF_A_LIBRARY = re.compile(r"(?:^|\n)(?:pub )?(?:ghost )?use (?:Rattle\.(?:std|core|std_alloc|std_heap|std_io|std_collections)\.|mathlib|native|lib\.|Prim|borrow|seplogic|logic|meta|cubical)[^\n]*?\{([^}]*)\}")
 
 
 def spelled(name):
@@ -79,6 +80,17 @@ def main():
         table.write("".join(f"{a}\t{b}\n" for a, b in sorted(turned.items())))
     pages = glob.glob("docs/*.md") + ["README.md"]
     r = subprocess.run([sys.executable, SNAKE, "--table", table.name, "--only", "antt,rt,md", "crates", *pages], stdout=subprocess.PIPE, stderr=subprocess.STDOUT, text=True)
+    # a word that a file takes from a library keeps the library's spelling there
+    before = {}
+    for a, b in turned.items():
+        before.setdefault(b, a)
+    for f in every:
+        text = open(f, encoding="utf-8").read()
+        taken = {it.strip().split(" as ")[0].strip() for m in OF_A_LIBRARY.finditer(text) for it in m[1].split(",")}
+        back = {it: before[it] for it in taken if it in before}
+        if back:
+            with open(f, "w", encoding="utf-8") as it:
+                it.write(WORD.sub(lambda m: back.get(m[0], m[0]), text))
     with open("/tmp/respell-said.txt", "w") as it:
         it.write(r.stdout)
     print(r.stdout[-1500:])

@@ -1,16 +1,16 @@
 -- Document 02, card 13: an answer after so many rounds. The set is that of the comparing call; of the rounds only the first k count, and
 -- the answer has the members as in a report with the classes of round k, no trail section and no count of one.
 use Rattle.std.specs.Prelude.{◌≡◌, refl, Bool, cond, List, [], ◌∷◌, ◌++◌, ℕ, suc, ◌+◌, ◌*◌, length}
-use Rattle.lists.specs.Lists.{same_numbers}
-use Rattle.sheets.specs.Sheet.{Configuration, Sheet, start}
-use Rattle.sheets.specs.SheetBytes.{word_bytes}
-use Rattle.sheet_reading.specs.Reading.{read_choice}
-use Rattle.comparison.specs.CallLimits.{Limits, limits, desk_limits, word_length, member_length}
-use Rattle.comparison.specs.Classes.{share}
-use Rattle.comparison.specs.Rounds.{classes}
-use Rattle.comparison.specs.Report.{members_bytes}
-use Rattle.comparison.specs.Outcome.{Outcome, written_after}
-use Rattle.comparison.specs.Frame.{with_room, with_set, with_work, with_sheet}
+use Rattle.answers.specs.Lists.{same_numbers}
+use Rattle.answers.specs.Sheet.{Configuration, Sheet, start}
+use Rattle.answers.specs.SheetBytes.{word_bytes}
+use Rattle.answers.specs.Reading.{read_choice}
+use Rattle.answers.specs.CallLimits.{Limits, limits, desk_limits, word_length, member_length}
+use Rattle.answers.specs.Classes.{share}
+use Rattle.answers.specs.Rounds.{classes}
+use Rattle.answers.specs.Report.{members_bytes}
+use Rattle.answers.specs.Outcome.{Outcome, written_after}
+use Rattle.answers.specs.Frame.{with_room, with_set, with_work, with_sheet}
 
 pub data Verdict : Type 0 where
   SAME : Verdict

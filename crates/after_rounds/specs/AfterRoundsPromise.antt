@@ -2,15 +2,15 @@
 -- says, in terms of the set itself and of the watcher; of what is returned and of what stands in both slices afterwards.
 use Rattle.std.specs.Prelude.{◌≡◌, ◌↔◌, Bool, true, false, ℕ, ◌≤◌, ◌<◌, length, drop}
 use mathlib.Core.List.{List, [], ◌∷◌, ◌++◌, Memᴰ}
-use Rattle.sheets.specs.Sheet.{Configuration, Sheet, start}
-use Rattle.sheets.specs.SheetBytes.{ChoiceIs, ChoiceRefused}
-use Rattle.refinement.specs.Refinement.{Member, TellsApart}
-use Rattle.comparison.specs.CallLimits.{Limits}
-use Rattle.comparison.specs.Classes.{share, class_total}
-use Rattle.comparison.specs.Set.{explored}
-use Rattle.comparison.specs.SheetTransitions.{transitions}
-use Rattle.comparison.specs.Outcome.{cleared}
-use Rattle.comparison.specs.Promise.{RefusesBy, GivesBy, PromiseBy, ResultRound, SetListed, starts_of}
+use Rattle.answers.specs.Sheet.{Configuration, Sheet, start}
+use Rattle.answers.specs.SheetBytes.{ChoiceIs, ChoiceRefused}
+use Rattle.answers.specs.Refinement.{Member, TellsApart}
+use Rattle.answers.specs.CallLimits.{Limits}
+use Rattle.answers.specs.Classes.{share, class_total}
+use Rattle.answers.specs.Set.{explored}
+use Rattle.answers.specs.SheetTransitions.{transitions}
+use Rattle.answers.specs.Outcome.{cleared}
+use Rattle.answers.specs.Promise.{RefusesBy, GivesBy, PromiseBy, ResultRound, SetListed, starts_of}
 use Rattle.answers.specs.declared.Reported.{Reported}
 use Rattle.call_promise.specs.CallPromise.{report_read}
 use Rattle.call_promise.specs.TwoCalls.{OneWritten, LowerBy}

@@ -1,8 +1,8 @@
 -- An answer after so many rounds read back from what the call returned and from the answer's bytes, and what the call returns of an outcome.
 use Rattle.std.specs.Prelude.{List, ℕ, length, drop}
-use Rattle.sheets.specs.SheetBytes.{word}
-use Rattle.comparison.specs.Classes.{class_total}
-use Rattle.comparison.specs.Outcome.{reported, refusal}
+use Rattle.answers.specs.SheetBytes.{word}
+use Rattle.answers.specs.Classes.{class_total}
+use Rattle.answers.specs.Outcome.{reported, refusal}
 use Rattle.answers.specs.ReadBack.{members_read, classes_read}
 use Rattle.after_rounds.specs.AfterRounds as spec
 use Rattle.after_rounds.specs.AfterRounds.{AfterRounds, SAME, DIFF, OPEN, after_length, Afters}

@@ -1,18 +1,18 @@
 -- Rows for the call for so many rounds, on document 01's sheet K and on a sheet with facts that always stand; one statement proves them
 -- all.
 use Rattle.std.specs.Prelude.{List, [], ◌∷◌, ◌++◌, ℕ, T, length, drop}
-use Rattle.lists.specs.Lists.{all}
-use Rattle.stores.specs.Stores.{closure, passes, pass, conclusions}
-use Rattle.sheets.specs.Sheet.{open_within}
-use Rattle.sheet_reading.specs.Reading.{records_from, count_at, set_at, name_bytes, name_at, names_from, facts_at, rule_at, rules_at, kind_at, first_at, second_at, node_at, nodes_at, thread_at, threads_from, start_at, starts_at, read_sheet, read_choice}
-use Rattle.moves.specs.Moves.{labels, steps_within, moves}
-use Rattle.comparison.specs.CallLimits.{Limits, limits, desk_limits, work_length}
-use Rattle.comparison.specs.Classes.{numbered_from, class_total}
-use Rattle.comparison.specs.Set.{explored_from, explored}
-use Rattle.comparison.specs.Rounds.{refined, classes}
-use Rattle.comparison.specs.Outcome.{reported, refusal}
-use Rattle.comparison.specs.KnownSheets.{bytes_of_k, bytes_of_tells, bytes_of_standing}
-use Rattle.comparison.specs.KnownCases.{Row, row, right, nines}
+use Rattle.answers.specs.Lists.{all}
+use Rattle.answers.specs.Stores.{closure, passes, pass, conclusions}
+use Rattle.answers.specs.Sheet.{open_within}
+use Rattle.answers.specs.Reading.{records_from, count_at, set_at, name_bytes, name_at, names_from, facts_at, rule_at, rules_at, kind_at, first_at, second_at, node_at, nodes_at, thread_at, threads_from, start_at, starts_at, read_sheet, read_choice}
+use Rattle.answers.specs.Moves.{labels, steps_within, moves}
+use Rattle.answers.specs.CallLimits.{Limits, limits, desk_limits, work_length}
+use Rattle.answers.specs.Classes.{numbered_from, class_total}
+use Rattle.answers.specs.Set.{explored_from, explored}
+use Rattle.answers.specs.Rounds.{refined, classes}
+use Rattle.answers.specs.Outcome.{reported, refusal}
+use Rattle.answers.specs.KnownSheets.{bytes_of_k, bytes_of_tells, bytes_of_standing}
+use Rattle.answers.specs.KnownCases.{Row, row, right, nines}
 use Rattle.answers.specs.ReadBack.{members_read, classes_read}
 use Rattle.after_rounds.specs.AfterRounds.{Verdict, SAME, DIFF, OPEN, AfterRounds, Afters, after_on, after_bytes, after_length, after_written, after_room, compare_rounds_with, compare_rounds, compare_rounds_desk}
 use Rattle.after_rounds.specs.AfterRoundsRead.{after_read, reached_of}

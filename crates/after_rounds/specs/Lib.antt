@@ -1,3 +1,4 @@
+pub use Rattle.call_promise.specs.CallPromise
 pub mod AfterRounds
 pub mod AfterRoundsRead
 pub mod AfterRoundsPromise

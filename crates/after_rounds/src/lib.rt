@@ -1,5 +1,6 @@
 // What the call for so many rounds answers with (document 02, card 13): the types, the definition of the call and its promise. No
 // functions.
+#![tactic(auto)]
 
 // What the rounds say of the two starts: the same, apart, or not known yet.
 #[derive(Drop)]

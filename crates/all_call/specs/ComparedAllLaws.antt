@@ -3,14 +3,14 @@ use Rattle.std.specs.Prelude.{◌≡◌, ℕ, ◌≤◌, ◌<◌, length, get_or
 use Rattle.std.proofs.Math.Path.{refl}
 use Rattle.std.proofs.Common.{subst, arith}
 use mathlib.Core.List.{List, [], Memᴰ}
-use Rattle.list_laws.specs.ListPlaces.{get_d_in}
-use Rattle.sheets.specs.Sheet as spec
-use Rattle.comparison.specs.CallLimits.{Limits}
-use Rattle.comparison.specs.Set.{explored}
-use Rattle.comparison.specs.Outcome.{cleared}
-use Rattle.comparison_laws.specs.SetLaws.{fits_not_over, explored_closed, explored_ascends, explored_seeds}
+use Rattle.collected_moves.specs.ListPlaces.{get_d_in}
+use Rattle.call_frame.specs.Sheet as spec
+use Rattle.work_layout.specs.CallLimits.{Limits}
+use Rattle.work_layout.specs.Set.{explored}
+use Rattle.work_layout.specs.Outcome.{cleared}
+use Rattle.set_grouping.specs.SetLaws.{fits_not_over, explored_closed, explored_ascends, explored_seeds}
 use Rattle.work_layout.specs.WorkLayout.{work_end}
-use Rattle.kept_classes.specs.RoundLayout.{held_found}
+use Rattle.set_grouping.specs.RoundLayout.{held_found}
 use Rattle.call_frame.specs.declared.Begun.TheVariants.{Set, Refused}
 use Rattle.call_frame.specs.declared.AllStarted.{AllStarted}
 use Rattle.call_frame.specs.Begun.{StartsListed, AllBegun}

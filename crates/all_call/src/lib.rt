@@ -1,8 +1,10 @@
 // The call for all starts of a sheet (document 02, card 1): sheet bytes, an answer slice and a work slice in; the grouping of the starts
 // or one refusal out.
+#![tactic(auto)]
+
 ghost use Rattle.std.specs.Prelude.{length};
-ghost use Rattle.seed_members.specs.Seeds.{CapsFit};
-ghost use Rattle.found_set.specs.FoundSet.{limits_of};
+ghost use Rattle.call_frame.specs.Seeds.{CapsFit};
+ghost use Rattle.call_frame.specs.FoundSet.{limits_of};
 ghost use Rattle.all_starts.specs.Grouping.{compare_all_with, compare_all};
 ghost use Rattle.all_call.specs.ComparedAll.{ComparedAll};
 

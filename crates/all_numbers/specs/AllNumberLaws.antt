@@ -1,10 +1,10 @@
 -- The numbers of the library's answer are those of the outcome; no refusal has the number 0.
 use Rattle.std.specs.Prelude.{◌≡◌, refl, List, [], ◌∷◌, ℕ, ◌≤◌, length}
 use Rattle.std.proofs.Common.{sym, ap}
-use Rattle.sheet_reading.specs.SheetRead.{sheet_reads}
-use Rattle.sheet_laws.specs.RefusalNumbers.{sheet_number_low}
-use Rattle.comparison.specs.CallLimits.{Limits}
-use Rattle.comparison.specs.Outcome.{reported, refusal}
+use Rattle.answer_numbers.specs.SheetRead.{sheet_reads}
+use Rattle.all_call.specs.RefusalNumbers.{sheet_number_low}
+use Rattle.answer_numbers.specs.CallLimits.{Limits}
+use Rattle.answer_numbers.specs.Outcome.{reported, refusal}
 use Rattle.answer_numbers.specs.AnswerNumbers.{outcome_number}
 use Rattle.answer_numbers.specs.AnswerNumberLaws.{answered_handed, refuses_above}
 use Rattle.all_starts.specs.Grouping.{Groups}

@@ -1,7 +1,7 @@
 -- What a caller in C gets of the call for all starts: a number that is returned, and three more. Rows for them, as include/hofadiju.h
 -- has them: round, length, place.
 use Rattle.std.specs.Prelude.{◌≡◌, refl, List, [], ◌∷◌, ℕ}
-use Rattle.comparison.specs.Outcome.{reported, refusal}
+use Rattle.answer_numbers.specs.Outcome.{reported, refusal}
 use Rattle.answer_numbers.specs.AnswerNumbers.{outcome_number, HandedBy}
 use Rattle.all_starts.specs.Grouping.{Groups, grouping_bytes, grouping_length}
 use Rattle.all_starts.specs.declared.AllAnswer.{AllAnswer}

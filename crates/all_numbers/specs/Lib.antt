@@ -1,2 +1,3 @@
+pub use Rattle.all_starts.specs.Grouping
 pub mod AllNumbers
 pub mod AllNumberLaws

@@ -1,4 +1,6 @@
 // The answer of the call for all starts as numbers, for callers in C and Rust.
+#![tactic(auto)]
+
 ghost use Rattle.std.specs.Prelude.{◌≡◌};
 ghost use Rattle.all_numbers.specs.AllNumbers.{all_number, all_numbers};
 

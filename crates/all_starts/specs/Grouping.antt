@@ -1,17 +1,17 @@
 -- Document 02, card 1: all starts of a sheet compared together. The call takes no pair: its set begins with every start, and the answer
 -- has the members as in a report, no trail section and no count of one, and a class for each start.
 use Rattle.std.specs.Prelude.{◌≡◌, refl, List, [], ◌++◌, map, ℕ, ◌+◌, ◌*◌, length, get_or}
-use Rattle.lists.specs.Lists.{concat_map}
-use Rattle.sheets.specs.SheetLimits.{max_starts}
-use Rattle.sheets.specs.Sheet.{Configuration, Sheet}
-use Rattle.sheets.specs.SheetBytes.{word_bytes}
-use Rattle.sheet_reading.specs.Reading.{read_sheet}
-use Rattle.comparison.specs.CallLimits.{Limits, limits, word_length, member_length}
-use Rattle.comparison.specs.Classes.{class_of}
-use Rattle.comparison.specs.Rounds.{rounds, result_of}
-use Rattle.comparison.specs.Report.{members_bytes}
-use Rattle.comparison.specs.Outcome.{Outcome, written_after}
-use Rattle.comparison.specs.Frame.{with_room, with_set, with_work, with_sheet}
+use Rattle.answers.specs.Lists.{concat_map}
+use Rattle.answers.specs.SheetLimits.{max_starts}
+use Rattle.answers.specs.Sheet.{Configuration, Sheet}
+use Rattle.answers.specs.SheetBytes.{word_bytes}
+use Rattle.answers.specs.Reading.{read_sheet}
+use Rattle.answers.specs.CallLimits.{Limits, limits, word_length, member_length}
+use Rattle.answers.specs.Classes.{class_of}
+use Rattle.answers.specs.Rounds.{rounds, result_of}
+use Rattle.answers.specs.Report.{members_bytes}
+use Rattle.answers.specs.Outcome.{Outcome, written_after}
+use Rattle.answers.specs.Frame.{with_room, with_set, with_work, with_sheet}
 
 -- The number of the result's round, the members with its classes, and the class of each start in sheet order.
 pub record Grouping : Type 0 where

@@ -2,13 +2,13 @@
 -- in terms of the set itself and of saturated barbed bisimulations over all configurations of the sheet; of what is returned and of what
 -- stands in both slices afterwards.
 use Rattle.std.specs.Prelude.{◌≡◌, ◌↔◌, true, List, ◌++◌, map, ℕ, length, get_or, drop}
-use Rattle.sheets.specs.Sheet.{Sheet}
-use Rattle.sheets.specs.SheetBytes.{SheetIs, SheetRefused}
-use Rattle.comparison.specs.CallLimits.{Limits}
-use Rattle.comparison.specs.Classes.{class_of}
-use Rattle.comparison.specs.Set.{explored}
-use Rattle.comparison.specs.Outcome.{cleared}
-use Rattle.comparison.specs.Promise.{RefusesBy, GivesBy, PromiseBy, ResultRound, Classified}
+use Rattle.answers.specs.Sheet.{Sheet}
+use Rattle.answers.specs.SheetBytes.{SheetIs, SheetRefused}
+use Rattle.answers.specs.CallLimits.{Limits}
+use Rattle.answers.specs.Classes.{class_of}
+use Rattle.answers.specs.Set.{explored}
+use Rattle.answers.specs.Outcome.{cleared}
+use Rattle.answers.specs.Promise.{RefusesBy, GivesBy, PromiseBy, ResultRound, Classified}
 use Rattle.answers.specs.declared.Reported.{Reported}
 use Rattle.all_starts.specs.Grouping.{Grouping, grouping_on, grouping_bytes, grouping_length}
 use Rattle.all_starts.specs.GroupingRead.{grouped_of, grouping_read}

@@ -1,7 +1,7 @@
 -- A grouping read back from what the call returned and from the answer's bytes, and what the call returns of an outcome.
 use Rattle.std.specs.Prelude.{List, [], ◌∷◌, ℕ, ◌+◌, ◌*◌, take, drop}
-use Rattle.sheets.specs.SheetBytes.{word}
-use Rattle.comparison.specs.Outcome.{reported, refusal}
+use Rattle.answers.specs.SheetBytes.{word}
+use Rattle.answers.specs.Outcome.{reported, refusal}
 use Rattle.answers.specs.ReadBack.{members_read, classes_read, behind_members}
 use Rattle.all_starts.specs.Grouping.{Grouping, grouping_length, Groups}
 use Rattle.all_starts.specs.declared.Grouped.{Grouped}

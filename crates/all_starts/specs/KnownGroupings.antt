@@ -1,18 +1,18 @@
 -- Rows for the call for all starts, on document 01's sheet K with all its eight starts, and with three that are one member, and on a sheet
 -- with facts that always stand; one statement proves them all.
 use Rattle.std.specs.Prelude.{List, [], ◌∷◌, ◌++◌, ℕ, T, drop}
-use Rattle.lists.specs.Lists.{all}
-use Rattle.stores.specs.Stores.{closure, passes, pass, conclusions}
-use Rattle.sheets.specs.Sheet.{open_within}
-use Rattle.sheet_reading.specs.Reading.{records_from, count_at, set_at, name_bytes, name_at, names_from, facts_at, rule_at, rules_at, kind_at, first_at, second_at, node_at, nodes_at, thread_at, threads_from, start_at, starts_at, read_sheet}
-use Rattle.moves.specs.Moves.{labels, steps_within, moves}
-use Rattle.comparison.specs.CallLimits.{limits, work_length}
-use Rattle.comparison.specs.Classes.{numbered_from}
-use Rattle.comparison.specs.Set.{explored_from, explored}
-use Rattle.comparison.specs.Rounds.{refined, classes, rounds_from, rounds}
-use Rattle.comparison.specs.Outcome.{reported, refusal}
-use Rattle.comparison.specs.KnownSheets.{rule, start, section, three_facts, nodes_of_k, bytes_of_k, bytes_of_standing}
-use Rattle.comparison.specs.KnownCases.{Row, row, right, nines}
+use Rattle.answers.specs.Lists.{all}
+use Rattle.answers.specs.Stores.{closure, passes, pass, conclusions}
+use Rattle.answers.specs.Sheet.{open_within}
+use Rattle.answers.specs.Reading.{records_from, count_at, set_at, name_bytes, name_at, names_from, facts_at, rule_at, rules_at, kind_at, first_at, second_at, node_at, nodes_at, thread_at, threads_from, start_at, starts_at, read_sheet}
+use Rattle.answers.specs.Moves.{labels, steps_within, moves}
+use Rattle.answers.specs.CallLimits.{limits, work_length}
+use Rattle.answers.specs.Classes.{numbered_from}
+use Rattle.answers.specs.Set.{explored_from, explored}
+use Rattle.answers.specs.Rounds.{refined, classes, rounds_from, rounds}
+use Rattle.answers.specs.Outcome.{reported, refusal}
+use Rattle.answers.specs.KnownSheets.{rule, start, section, three_facts, nodes_of_k, bytes_of_k, bytes_of_standing}
+use Rattle.answers.specs.KnownCases.{Row, row, right, nines}
 use Rattle.answers.specs.ReadBack.{members_read, classes_read, behind_members}
 use Rattle.all_starts.specs.Grouping.{Groups, grouping_on, grouping_bytes, grouping_length, grouping_after, grouping_room, compare_all_with, compare_all}
 use Rattle.all_starts.specs.GroupingRead.{words_read, grouping_read, grouped_of}

@@ -1,3 +1,5 @@
+pub use Rattle.answers.specs.Classes
+pub use Rattle.answers.specs.Rounds
 pub mod Grouping
 pub mod GroupingRead
 pub mod GroupingPromise

@@ -1,4 +1,5 @@
 // What the call for all starts answers with (document 02, card 1): the types, the definition of the call and its promise. No functions.
+#![tactic(auto)]
 
 // What the call returns of a grouping: the number of the result's round, and the answer's length in bytes.
 #[derive(Drop)]

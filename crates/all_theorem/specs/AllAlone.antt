@@ -1,8 +1,8 @@
 -- The promise fixes the call for all starts: of the same input, what two calls that keep it return and leave in both slices is the same.
 use Rattle.std.specs.Prelude.{◌≡◌, List, ◌++◌, ℕ, length, drop}
 use Rattle.std.proofs.Common.{sym, ap, ◌∙◌}
-use Rattle.sheet_reading.specs.SheetRead.{one_sheet}
-use Rattle.comparison.specs.CallLimits.{Limits}
+use Rattle.answers.specs.SheetRead.{one_sheet}
+use Rattle.answers.specs.CallLimits.{Limits}
 use Rattle.promise_laws.specs.PromiseAlone.{promise_alone}
 use Rattle.all_starts.specs.Grouping.{Grouping, grouping_bytes}
 use Rattle.all_starts.specs.GroupingPromise.{grouping_for, GivesAll, GroupingPromise, AllPromise}

@@ -1,14 +1,14 @@
 -- The call for all starts keeps its promise.
 use Rattle.std.specs.Prelude.{◌≡◌, refl, List, ◌++◌, ℕ, ◌≤◌, length, drop}
 use Rattle.std.proofs.Common.{sym, ap, ap₂, ◌∙◌, subst, arith}
-use Rattle.sheets.specs.Refusals.{short_answer}
-use Rattle.sheet_reading.specs.SheetRead.{sheet_reads}
-use Rattle.sheet_laws.specs.ReadingLaws.{written_admissible}
-use Rattle.sheet_laws.specs.RefusalNumbers.{sheet_number_low}
-use Rattle.comparison.specs.CallLimits.{Limits, NoGreater, limits}
-use Rattle.comparison.specs.Outcome.{reported, cleared}
-use Rattle.comparison_laws.specs.RoomLaws.{never_short_answer}
-use Rattle.comparison_laws.specs.LimitLaws.{own_limits}
+use Rattle.answers.specs.Refusals.{short_answer}
+use Rattle.answers.specs.SheetRead.{sheet_reads}
+use Rattle.call_theorem.specs.ReadingLaws.{written_admissible}
+use Rattle.call_theorem.specs.RefusalNumbers.{sheet_number_low}
+use Rattle.answers.specs.CallLimits.{Limits, NoGreater, limits}
+use Rattle.answers.specs.Outcome.{reported, cleared}
+use Rattle.call_theorem.specs.RoomLaws.{never_short_answer}
+use Rattle.call_theorem.specs.LimitLaws.{own_limits}
 use Rattle.promise_laws.specs.PromiseKept.{Variants, promise_kept}
 use Rattle.all_starts.specs.Grouping.{Grouping, grouping_bytes, grouping_length, grouping_room, grouping_after, compare_all_with, compare_all}
 use Rattle.all_starts.specs.GroupingRead.{grouped_of, groups_returned, grouping_read}

@@ -1,34 +1,34 @@
 -- Document 02, card 1, sentence by sentence: what follows for a caller who has the grouping, and for one who has the comparing call's
 -- answer beside it. Proved of any two calls that keep their promises, each within limits and with slices of its own.
 use Rattle.std.specs.Prelude.{◌≡◌, refl, ◌↔◌, Bool, true, false, ℕ, ◌<◌, length, get_or}
-use Rattle.std.proofs.Common.{sym, ap, ◌∙◌, arith, eqb-true, eq_eqb}
+use Rattle.std.proofs.Common.{sym, ap, ◌∙◌, arith, eqb-true, eq-eqb}
 use Rattle.std.proofs.Math.Path.{subst}
 use mathlib.Core.List.{List, [], Memᴰ}
 use Rattle.std.proofs.lemmas.List.{length-map}
-use Rattle.list_laws.specs.TestLaws.{Tested, tested, passes, fails, true_false}
-use Rattle.list_laws.specs.ListPlaces.{get_d_in, get_d_image}
-use Rattle.sheets.specs.Refusals.{large_set}
-use Rattle.sheets.specs.Sheet.{Configuration, Sheet, start}
-use Rattle.sheets.specs.SheetBytes.{ChoiceIs}
-use Rattle.sheet_reading.specs.SheetRead.{one_sheet, choice_reads}
-use Rattle.sheet_laws.specs.RefusalNumbers.{number_low}
-use Rattle.refinement.specs.Refinement.{Member, seed, target, added, Bisimilar}
-use Rattle.comparison.specs.CallLimits.{Limits, NoGreater}
-use Rattle.comparison.specs.Classes.{class_of, share}
-use Rattle.comparison.specs.Report as spec
-use Rattle.comparison.specs.Report.{Verdict, SAME, DIFF}
-use Rattle.comparison.specs.SheetTransitions.{transitions}
-use Rattle.comparison.specs.Promise.{PassesLimit, many_members, many_threads_lem, many_moves, starts_of, Faithful}
-use Rattle.comparison_laws.specs.RoomLaws.{by_large_set}
-use Rattle.comparison_laws.specs.Theorem.{both_hold, same_not_diff}
-use Rattle.comparison_laws.specs.LimitLaws.{passes_lower}
+use Rattle.all_call.specs.TestLaws.{Tested, tested, passes, fails, true_false}
+use Rattle.all_call.specs.ListPlaces.{get_d_in, get_d_image}
+use Rattle.answers.specs.Refusals.{large_set}
+use Rattle.answers.specs.Sheet.{Configuration, Sheet, start}
+use Rattle.answers.specs.SheetBytes.{ChoiceIs}
+use Rattle.answers.specs.SheetRead.{one_sheet, choice_reads}
+use Rattle.call_theorem.specs.RefusalNumbers.{number_low}
+use Rattle.answers.specs.Refinement.{Member, seed, target, added, Bisimilar}
+use Rattle.answers.specs.CallLimits.{Limits, NoGreater}
+use Rattle.answers.specs.Classes.{class_of, share}
+use Rattle.answers.specs.Report as spec
+use Rattle.answers.specs.Report.{Verdict, SAME, DIFF}
+use Rattle.answers.specs.SheetTransitions.{transitions}
+use Rattle.answers.specs.Promise.{PassesLimit, many_members, many_threads_lem, many_moves, starts_of, Faithful}
+use Rattle.call_theorem.specs.RoomLaws.{by_large_set}
+use Rattle.call_theorem.specs.Theorem.{both_hold, same_not_diff}
+use Rattle.call_theorem.specs.LimitLaws.{passes_lower}
 use Rattle.answers.specs.ReadBack.{read_back_lem}
 use Rattle.answers.specs.declared.Reported.{Reported}
 use Rattle.answers.specs.declared.Answer.{Answer}
 use Rattle.answers.specs.declared.Answer.TheVariants.{Report, Refused}
-use Rattle.comparison.specs.Call.{compare}
-use Rattle.compare_call.specs.Compared.{Compared}
-use Rattle.call_promise.specs.CallPromise.{verdict_read, report_read, CallPromise}
+use Rattle.answers.specs.Call.{compare}
+use Rattle.call_theorem.specs.Compared.{Compared}
+use Rattle.call_theorem.specs.CallPromise.{verdict_read, report_read, CallPromise}
 use Rattle.call_theorem.specs.CallPromiseLaws.{document_promise}
 use Rattle.all_call.specs.ComparedAll.{ComparedAll}
 use Rattle.all_theorem.specs.AllPromiseLaws.{all_document_promise}
@@ -60,7 +60,7 @@ module _ (sheet : Sheet) (g : Grouping) (f : FaithfulAll sheet g) where
       let c = f.listed.classes (start sheet i) (start sheet j) (start_there i li) (start_there j lj) in
       let ei = start_class i li in
       let ej = start_class j lj in (
-        (λ e. c.0 (eq_eqb _ _ (sym ei ∙ e ∙ ej))),
+        (λ e. c.0 (eq-eqb _ _ (sym ei ∙ e ∙ ej))),
         (λ b. ei ∙ eqb-true _ _ (c.1 b) ∙ sym ej),
       )
 

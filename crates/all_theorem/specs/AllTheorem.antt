@@ -8,29 +8,29 @@ use Prim.Native.Nat.{ℕ, ◌+◌, ◌*◌, ◌/◌, ◌%◌, ◌≤◌, ◌<◌
 use native.Mathlib.Omega.{arith}
 use Rattle.std.proofs.Math.ListN.{length-append, length-map}
 use Rattle.std.proofs.Math.Seq.{take-append_seam}
-use Rattle.lists.specs.Lists.{concat_map}
-use Rattle.list_laws.specs.ListPlaces.{get_d_in}
-use Rattle.list_laws.specs.Members.{mem_map}
-use Rattle.sheets.specs.Sheet.{Configuration, Sheet}
-use Rattle.sheets.specs.SheetBytes.{SheetIs, SheetRefused, word_bytes}
-use Rattle.sheets.specs.WellFormed.{Admissible}
-use Rattle.sheet_reading.specs.Reading.{read_sheet}
-use Rattle.sheet_reading.specs.SheetRead.{sheet_reads}
-use Rattle.comparison.specs.CallLimits.{Limits, NoGreater, limits}
-use Rattle.comparison.specs.Set.{explored, fits}
-use Rattle.comparison.specs.Classes.{class_of, place_of}
-use Rattle.comparison.specs.Rounds.{rounds, result_of}
-use Rattle.comparison.specs.Report.{members_bytes}
-use Rattle.comparison.specs.Outcome.{reported, refusal}
-use Rattle.comparison.specs.Promise.{PassesLimit}
-use Rattle.comparison_laws.specs.SetLaws.{fits_unpassed, fits_not_over, explored_seeds}
-use Rattle.comparison_laws.specs.ClassLaws.{place_of_lt}
-use Rattle.comparison_laws.specs.ReportLaws.{members_room}
-use Rattle.comparison_laws.specs.Theorem.{member_some, result_classified, result_round}
-use Rattle.comparison_laws.specs.FrameTheorem.{Decides, frame_decides, frame_refuses, frame_gives}
-use Rattle.answer_laws.specs.Fitting.{MembersFit}
-use Rattle.answer_laws.specs.FittingLaws.{members_fit}
-use Rattle.answer_laws.specs.ReadBackLaws.{ListedBack, listed_back}
+use Rattle.answers.specs.Lists.{concat_map}
+use Rattle.all_call.specs.ListPlaces.{get_d_in}
+use Rattle.all_call.specs.Members.{mem_map}
+use Rattle.answers.specs.Sheet.{Configuration, Sheet}
+use Rattle.answers.specs.SheetBytes.{SheetIs, SheetRefused, word_bytes}
+use Rattle.answers.specs.WellFormed.{Admissible}
+use Rattle.answers.specs.Reading.{read_sheet}
+use Rattle.answers.specs.SheetRead.{sheet_reads}
+use Rattle.answers.specs.CallLimits.{Limits, NoGreater, limits}
+use Rattle.answers.specs.Set.{explored, fits}
+use Rattle.answers.specs.Classes.{class_of, place_of}
+use Rattle.answers.specs.Rounds.{rounds, result_of}
+use Rattle.answers.specs.Report.{members_bytes}
+use Rattle.answers.specs.Outcome.{reported, refusal}
+use Rattle.answers.specs.Promise.{PassesLimit}
+use Rattle.call_theorem.specs.SetLaws.{fits_unpassed, fits_not_over, explored_seeds}
+use Rattle.call_theorem.specs.ClassLaws.{place_of_lt}
+use Rattle.call_theorem.specs.ReportLaws.{members_room}
+use Rattle.call_theorem.specs.Theorem.{member_some, result_classified, result_round}
+use Rattle.call_theorem.specs.FrameTheorem.{Decides, frame_decides, frame_refuses, frame_gives}
+use Rattle.call_theorem.specs.Fitting.{MembersFit}
+use Rattle.call_theorem.specs.FittingLaws.{members_fit}
+use Rattle.call_theorem.specs.ReadBackLaws.{ListedBack, listed_back}
 use Rattle.all_starts.specs.Grouping.{Grouping, grouping_on, grouping_bytes, grouping_length, grouping_room, compare_all_with}
 use Rattle.all_starts.specs.GroupingRead.{grouped_of, words_read, grouping_in, grouping_read}
 use Rattle.all_starts.specs.GroupingPromise.{FaithfulAll, grouping_for, RefusesAll, GivesAll}

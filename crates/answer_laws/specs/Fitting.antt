@@ -1,13 +1,13 @@
 -- What an answer must be so that its bytes hold it: its numbers fit their bytes, and what a report's steps name is on its list.
 use Rattle.std.specs.Prelude.{◌≡◌, ℕ, ◌≤◌, ◌<◌, length, get_or}
 use mathlib.Core.List.{List, Memᴰ}
-use Rattle.lists.specs.Lists.{Ascends}
-use Rattle.sheets.specs.SheetLimits.{max_threads}
-use Rattle.sheets.specs.Sheet.{Configuration}
-use Rattle.moves.specs.Orders.{configuration_before}
-use Rattle.comparison.specs.CallLimits.{limits}
-use Rattle.comparison.specs.Trail.{Reply, none, move, TrailStep}
-use Rattle.comparison.specs.Report.{Report}
+use Rattle.comparison_laws.specs.Lists.{Ascends}
+use Rattle.answers.specs.SheetLimits.{max_threads}
+use Rattle.comparison_laws.specs.Sheet.{Configuration}
+use Rattle.comparison_laws.specs.Orders.{configuration_before}
+use Rattle.comparison_laws.specs.CallLimits.{limits}
+use Rattle.comparison_laws.specs.Trail.{Reply, none, move, TrailStep}
+use Rattle.answers.specs.Report.{Report}
 
 -- a reply has the step's label and leads to a member
 abbrev pub ReplyFits : List Configuration → ℕ → Reply → Type 0

@@ -7,30 +7,30 @@ use mathlib.Core.List.{List, [], ◌∷◌, Memᴰ}
 use Prim.Native.Nat.{ℕ, zero, suc, ◌+◌, ◌-◌, ◌^◌, ◌≤◌, ◌<◌}
 use Rattle.std.proofs.Math.ListN.{get_or}
 use Rattle.std.proofs.Math.Dec.{eqb}
-use Rattle.list_laws.specs.ListPlaces.{get_d_in}
-use Rattle.stores.specs.Stores.{Constraint}
-use Rattle.sheets.specs.SheetLimits.{max_facts}
-use Rattle.sheets.specs.Sheet.{Configuration, Sheet, start}
-use Rattle.sheets.specs.WellFormed.{OfSheet, Admissible, WellFormed}
-use Rattle.sheet_laws.specs.ReadingLaws.{written_admissible}
-use Rattle.moves.specs.Orders.{Move}
-use Rattle.moves.specs.Moves.{moves}
-use Rattle.refinement_laws.specs.StableRounds.{member_of}
-use Rattle.comparison.specs.CallLimits.{Limits, NoGreater, limits}
-use Rattle.comparison.specs.Set.{over, explored, fits}
-use Rattle.comparison.specs.Classes.{numbered}
+use Rattle.comparison_laws.specs.ListPlaces.{get_d_in}
+use Rattle.comparison_laws.specs.Stores.{Constraint}
+use Rattle.answers.specs.SheetLimits.{max_facts}
+use Rattle.comparison_laws.specs.Sheet.{Configuration, Sheet, start}
+use Rattle.comparison_laws.specs.WellFormed.{OfSheet, Admissible, WellFormed}
+use Rattle.comparison_laws.specs.ReadingLaws.{written_admissible}
+use Rattle.comparison_laws.specs.Orders.{Move}
+use Rattle.comparison_laws.specs.Moves.{moves}
+use Rattle.comparison_laws.specs.StableRounds.{member_of}
+use Rattle.comparison_laws.specs.CallLimits.{Limits, NoGreater, limits}
+use Rattle.comparison_laws.specs.Set.{over, explored, fits}
+use Rattle.comparison_laws.specs.Classes.{numbered}
 use Rattle.comparison_laws.specs.ClassLaws.{Numbering, no_more, in_use, next, numbered_from_numbering, numbered_length}
-use Rattle.comparison.specs.Rounds.{rounds, classes, refined, result_of, apart_in, stores_equal, together}
-use Rattle.comparison.specs.Trail.{Side, left, right, Reply, none, move, TrailStep, after, first_of, reply_to, unanswered, trail_from}
+use Rattle.comparison_laws.specs.Rounds.{rounds, classes, refined, result_of, apart_in, stores_equal, together}
+use Rattle.comparison_laws.specs.Trail.{Side, left, right, Reply, none, move, TrailStep, after, first_of, reply_to, unanswered, trail_from}
 use Rattle.comparison_laws.specs.TrailLaws.{unanswered_mem, reply_mem, trail_length}
-use Rattle.comparison.specs.Report.{Report, report_on}
-use Rattle.comparison.specs.Outcome.{reported}
-use Rattle.comparison.specs.Call.{compare_with}
-use Rattle.comparison.specs.Promise.{starts_of}
+use Rattle.answers.specs.Report.{Report, report_on}
+use Rattle.answers.specs.Outcome.{reported}
+use Rattle.comparison_laws.specs.Call.{compare_with}
+use Rattle.comparison_laws.specs.Promise.{starts_of}
 use Rattle.comparison_laws.specs.SetLaws.{explored_seeds, explored_member, explored_ascends, explored_closed, fits_not_over, fits_unpassed}
 use Rattle.comparison_laws.specs.RoundLaws.{ClosedList}
 use Rattle.comparison_laws.specs.SheetMoves.{lawful}
-use Rattle.comparison.specs.SheetTransitions.{transitions}
+use Rattle.comparison_laws.specs.SheetTransitions.{transitions}
 use Rattle.comparison_laws.specs.ResultLaws.{classes_length, rounds_of, rounds_at, result_is}
 use Rattle.comparison_laws.specs.ReportLaws.{within_limits}
 use Rattle.comparison_laws.specs.Theorem.{member_some, both_hold}

@@ -6,15 +6,15 @@ use mathlib.Core.List.{List, [], ◌∷◌, ◌++◌, map, append_assoc, Memᴰ}
 use Prim.Native.Nat.{ℕ, zero, suc, ◌<◌}
 use Rattle.std.proofs.lemmas.List.{length-map}
 use Rattle.std.proofs.Math.Seq.{take-append_seam, drop-append_seam}
-use Rattle.lists.specs.Lists.{concat_map}
-use Rattle.list_laws.specs.ListPlaces.{get_d_any, get_d_image}
-use Rattle.sheets.specs.Sheet.{Configuration}
-use Rattle.sheets.specs.SheetBytes.{word, word_bytes}
-use Rattle.comparison.specs.CallLimits.{no_reply}
-use Rattle.comparison.specs.Classes.{place_of, class_of}
+use Rattle.comparison_laws.specs.Lists.{concat_map}
+use Rattle.comparison_laws.specs.ListPlaces.{get_d_any, get_d_image}
+use Rattle.comparison_laws.specs.Sheet.{Configuration}
+use Rattle.answers.specs.SheetBytes.{word, word_bytes}
+use Rattle.comparison_laws.specs.CallLimits.{no_reply}
+use Rattle.comparison_laws.specs.Classes.{place_of, class_of}
 use Rattle.comparison_laws.specs.ClassLaws.{place_of_lt, place_of_at}
-use Rattle.comparison.specs.Trail.{Side, left, right, Reply, none, move, TrailStep}
-use Rattle.comparison.specs.Report.{Report, member_bytes, members_bytes, step_bytes, side_byte, reply_number, report_bytes}
+use Rattle.comparison_laws.specs.Trail.{Side, left, right, Reply, none, move, TrailStep}
+use Rattle.answers.specs.Report.{Report, member_bytes, members_bytes, step_bytes, side_byte, reply_number, report_bytes}
 use Rattle.answers.specs.ReadBack.{member_first, class_first, behind_threads, behind_member, members_read, classes_read, behind_members, side_read, member_with, reply_read, step_first, steps_read, read_back_lem}
 use Rattle.answer_laws.specs.Fitting.{ReplyFits, StepFits, MembersFit, Fitting}
 use Rattle.comparison_laws.specs.MemberPlaces.{place_of_member}

@@ -1,21 +1,21 @@
 -- The numbers of the library's answer are those of the outcome; no refusal has the number 0.
 use Rattle.std.specs.Prelude.{◌≡◌, refl, List, [], ◌∷◌, ℕ, ◌≤◌}
 use Rattle.std.proofs.Common.{sym, ap, ◌∙◌, arith}
-use Rattle.sheets.specs.Sheet.{Configuration, Sheet}
-use Rattle.comparison.specs.CallLimits.{Limits}
-use Rattle.comparison.specs.Report.{Verdict, SAME, DIFF, report_length, Compares}
-use Rattle.comparison.specs.Outcome.{Outcome, reported, refusal}
-use Rattle.comparison.specs.Call.{compare_with}
-use Rattle.comparison.specs.Promise.{RefusesBy, by_sheet, short_work_lem, large_set_lem, short_answer_lem}
-use Rattle.comparison_laws.specs.CallTheorem.{refuses_exactly}
+use Rattle.answers.specs.Sheet.{Configuration, Sheet}
+use Rattle.answers.specs.CallLimits.{Limits}
+use Rattle.answers.specs.Report.{Verdict, SAME, DIFF, report_length, Compares}
+use Rattle.answers.specs.Outcome.{Outcome, reported, refusal}
+use Rattle.answers.specs.Call.{compare_with}
+use Rattle.answers.specs.Promise.{RefusesBy, by_sheet, short_work_lem, large_set_lem, short_answer_lem}
+use Rattle.compare_call.specs.CallTheorem.{refuses_exactly}
 use Rattle.answers.specs.declared.Reported.{Reported}
 use Rattle.answers.specs.declared.Answer.{Answer}
 use Rattle.answers.specs.declared.Answer.TheVariants.{Report, Refused}
 use Rattle.answers.specs.Returned.{is_same, returned}
-use Rattle.call_frame.specs.Answered.{Answered}
+use Rattle.compare_call.specs.Answered.{Answered}
 use Rattle.compare_call.specs.Compared.{Compared}
-use Rattle.sheet_reading.specs.SheetRead.{choice_reads}
-use Rattle.sheet_laws.specs.RefusalNumbers.{number_low}
+use Rattle.answers.specs.SheetRead.{choice_reads}
+use Rattle.compare_call.specs.RefusalNumbers.{number_low}
 use Rattle.answer_numbers.specs.AnswerNumbers.{outcome_number, outcome_numbers, verdict_number, HandedBy, Handed, same_number_lem, answer_number, answer_numbers}
 
 verdict_is : (v : Verdict) → same_number_lem (is_same v) ≡ verdict_number v

@@ -1,7 +1,7 @@
 -- What a caller in C gets of a call's outcome: a number that is returned, and the numbers of the result; for the comparing call six.
 use Rattle.std.specs.Prelude.{◌≡◌, Bool, true, false, List, [], ◌∷◌, ℕ}
-use Rattle.comparison.specs.Report.{Verdict, SAME, DIFF, report_bytes, report_length, Compares}
-use Rattle.comparison.specs.Outcome.{Outcome, reported, refusal, written_after, work_after}
+use Rattle.answers.specs.Report.{Verdict, SAME, DIFF, report_bytes, report_length, Compares}
+use Rattle.answers.specs.Outcome.{Outcome, reported, refusal, written_after, work_after}
 use Rattle.answers.specs.declared.Answer.{Answer}
 use Rattle.answers.specs.declared.Answer.TheVariants.{Report, Refused}
 

@@ -1,15 +1,15 @@
 -- What a caller in C gets of the call within lower limits is what the call within higher ones hands out, or 21 (document 02, card 3).
 use Rattle.std.specs.Prelude.{◌≡◌, ◌⊎◌, List, ℕ, length}
 use Rattle.std.proofs.Common.{ap, ◌∙◌, subst, inl, inr, ⊎_elim}
-use Rattle.sheets.specs.Refusals.{large_set}
-use Rattle.sheets.specs.SheetBytes.{ChoiceIs, ChoiceRefused}
-use Rattle.comparison.specs.CallLimits.{Limits, NoGreater}
-use Rattle.comparison.specs.Outcome.{Outcome, refusal}
-use Rattle.comparison.specs.Report.{report_length}
-use Rattle.comparison.specs.Call.{compare_with}
-use Rattle.comparison.specs.Promise.{report_for, starts_of}
-use Rattle.comparison_laws.specs.CallTheorem.{call_gives, refuses_exactly, reports_exactly}
-use Rattle.comparison_laws.specs.LimitLaws.{report_same, beside, outcomes_beside, one_choice}
+use Rattle.answers.specs.Refusals.{large_set}
+use Rattle.answers.specs.SheetBytes.{ChoiceIs, ChoiceRefused}
+use Rattle.answers.specs.CallLimits.{Limits, NoGreater}
+use Rattle.answers.specs.Outcome.{Outcome, refusal}
+use Rattle.answers.specs.Report.{report_length}
+use Rattle.answers.specs.Call.{compare_with}
+use Rattle.answers.specs.Promise.{report_for, starts_of}
+use Rattle.compare_call.specs.CallTheorem.{call_gives, refuses_exactly, reports_exactly}
+use Rattle.compare_call.specs.LimitLaws.{report_same, beside, outcomes_beside, one_choice}
 use Rattle.answer_numbers.specs.AnswerNumbers.{outcome_number, HandedBy, Handed}
 
 -- any two calls whose outcomes are one, or the first is 21: the returned number, the result's numbers and both slices

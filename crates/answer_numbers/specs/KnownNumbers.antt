@@ -1,8 +1,8 @@
 -- Rows for the numbers that a caller in C gets, as include/hofadiju.h has them: 0 is SAME and 1 is DIFF, then round, left, right, length,
 -- place.
 use Rattle.std.specs.Prelude.{◌≡◌, refl, List, [], ◌∷◌, ℕ}
-use Rattle.comparison.specs.Report.{Verdict, SAME, DIFF, Compares}
-use Rattle.comparison.specs.Outcome.{reported, refusal}
+use Rattle.answers.specs.Report.{Verdict, SAME, DIFF, Compares}
+use Rattle.answers.specs.Outcome.{reported, refusal}
 use Rattle.answer_numbers.specs.AnswerNumbers.{outcome_number, outcome_numbers}
 
 -- a report of four bytes, without members and steps

@@ -1,3 +1,12 @@
+pub use Rattle.answers.specs.Call
+pub use Rattle.answers.specs.CallLimits
+pub use Rattle.answers.specs.Classes
+pub use Rattle.answers.specs.Outcome
+pub use Rattle.answers.specs.Promise
+pub use Rattle.compare_call.specs.RefusalNumbers
+pub use Rattle.answers.specs.Refusals
+pub use Rattle.answers.specs.SheetBytes
+pub use Rattle.answers.specs.SheetRead
 pub mod AnswerNumbers
 pub mod KnownNumbers
 pub mod AnswerNumberLaws

@@ -1,4 +1,6 @@
 // The answer of the comparing call as numbers, for callers in C and Rust.
+#![tactic(auto)]
+
 ghost use Rattle.std.specs.Prelude.{◌≡◌};
 ghost use Rattle.answer_numbers.specs.AnswerNumbers.{answer_number, answer_numbers, same_number_lem};
 

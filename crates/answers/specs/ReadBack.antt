@@ -1,7 +1,7 @@
 -- Document 01, "The report", read the other way: what a reader of an answer's bytes gets back. A byte beyond the end counts as 0.
 use Rattle.std.specs.Prelude.{cond, List, [], ◌∷◌, ℕ, zero, suc, get_or, take, drop, eqb}
-use Rattle.sheets.specs.Sheet.{Configuration}
-use Rattle.sheets.specs.SheetBytes.{word}
+use Rattle.comparison.specs.Sheet.{Configuration}
+use Rattle.comparison.specs.SheetBytes.{word}
 use Rattle.comparison.specs.CallLimits.{no_reply}
 use Rattle.comparison.specs.Trail.{Side, left, right, Reply, none, move, TrailStep}
 use Rattle.comparison.specs.Report.{Verdict, Report}

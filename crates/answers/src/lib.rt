@@ -1,4 +1,5 @@
 // What the calls answer with: the types, what of an outcome they have, and how the bytes of an answer are read back. No functions.
+#![tactic(auto)]
 
 // What the call returns of a report: SAME or DIFF, the round, the places of both starts, and the report's length in bytes.
 #[derive(Drop)]

@@ -2,10 +2,10 @@
 use Rattle.std.specs.Prelude.{◌≡◌, ◌⊎◌, List, ℕ, ◌+◌, ◌*◌, ◌-◌, ◌/◌, ◌^◌, ◌≤◌, ◌<◌, length, get_or, set}
 use Rattle.ask_labels.specs.declared.Shelf.{Shelf}
 use Rattle.ask_labels.specs.declared.Labelled.{Labelled}
-use Rattle.list_laws.specs.Frames.{SameOutside}
+use Rattle.work_layout.specs.Frames.{SameOutside}
 use Rattle.label_search.specs.AskLabels.{TableOf, LabelsAre, part}
 use Rattle.work_layout.specs.WorkLayout.{heads_at, lists_at, lists_end}
-use Rattle.sheets.specs.SheetLimits.{max_facts}
+use Rattle.closure_table.specs.SheetLimits.{max_facts}
 
 -- how many entries there are at most
 abbrev pub max_sets : ℕ

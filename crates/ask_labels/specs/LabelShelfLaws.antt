@@ -1,21 +1,21 @@
 -- Laws of the shelf: it begins with no entries, takes one entry more, and stays where the slice agrees.
 use Rattle.std.specs.Prelude.{◌≡◌, ◌⊎◌, Bool, ℕ, ◌+◌, ◌*◌, ◌-◌, ◌/◌, ◌^◌, ◌≤◌, ◌<◌, length, get_or, set, take, drop}
 use Rattle.std.proofs.Math.Path.{refl, subst}
-use Rattle.std.proofs.Common.{sym, ap, ap₂, ◌∙◌, inl, inr, ⊎_elim, arith, length-set, get_or-set_same, get_or_set_other, pow_mono}
+use Rattle.std.proofs.Common.{sym, ap, ap₂, ◌∙◌, inl, inr, ⊎_elim, arith, length-set, get_or-set_same, get_or-set_other, pow_mono}
 use Rattle.std.proofs.Math.Bool.{true, false}
 use mathlib.Core.List.{List}
 use Rattle.std.proofs.Math.Dec.{eqb}
 use borrow.Author.Tests.{eqb-true, eqb-false}
 use Rattle.ask_labels.specs.declared.Shelf.{Shelf}
 use Rattle.ask_labels.specs.declared.Labelled.{Labelled}
-use Rattle.stores.specs.FactsOutside.{outside}
+use Rattle.label_tests.specs.FactsOutside.{outside}
 use Rattle.label_search.specs.LabelOrder.{labels_missing}
-use Rattle.list_laws.specs.Frames.{SameOutside, outside_same, outside_again, outside_wider, outside_set}
+use Rattle.work_layout.specs.Frames.{SameOutside, outside_same, outside_again, outside_wider, outside_set}
 use Rattle.label_search.specs.AskLabels.{LabelsAre, part}
 use Rattle.label_search.specs.LabelScanLaws.{part_agree, labels_agree, table_agree}
 use Rattle.ask_labels.specs.LabelShelf.{max_sets, asked_of, first_of, end_of, put_entry, EntryAt, Shelved, no_entries, HasRoom, ShelfRoom, LabelsGiven}
 use Rattle.work_layout.specs.WorkLayout.{heads_at, lists_at, lists_end, set_room}
-use Rattle.sheets.specs.SheetLimits.{max_facts}
+use Rattle.closure_table.specs.SheetLimits.{max_facts}
 
 -- there are at most 4096 sets
 pub sets_few : (facts : ℕ) → facts ≤ max_facts → 2 ^ facts ≤ set_room
@@ -139,15 +139,15 @@ module _ (w : List ℕ) (i c first end : ℕ) where
     put_asked =
         let one = set w (heads_at + 3 * i) c in
         let two = set one (heads_at + 3 * i + 1) first in
-        get_or_set_other two (heads_at + 3 * i + 2) (heads_at + 3 * i) end 0 (omega arith)
-        ∙ get_or_set_other one (heads_at + 3 * i + 1) (heads_at + 3 * i) first 0 (omega arith)
+        get_or-set_other two (heads_at + 3 * i + 2) (heads_at + 3 * i) end 0 (omega arith)
+        ∙ get_or-set_other one (heads_at + 3 * i + 1) (heads_at + 3 * i) first 0 (omega arith)
         ∙ get_or-set_same w (heads_at + 3 * i) c 0 (omega arith)
 
     put_first : first_of (put_entry w i c first end) i ≡ first
     put_first =
         let one = set w (heads_at + 3 * i) c in
         let two = set one (heads_at + 3 * i + 1) first in
-        get_or_set_other two (heads_at + 3 * i + 2) (heads_at + 3 * i + 1) end 0 (omega arith)
+        get_or-set_other two (heads_at + 3 * i + 2) (heads_at + 3 * i + 1) end 0 (omega arith)
         ∙ get_or-set_same one (heads_at + 3 * i + 1) first 0 (simp length-set (omega arith))
 
     put_end : end_of (put_entry w i c first end) i ≡ end

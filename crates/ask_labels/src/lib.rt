@@ -1,9 +1,11 @@
 // The labels of an ask, worked out once for each store and what it lacks of the asked set.
+#![tactic(auto)]
+
 ghost use Rattle.std.specs.Prelude.{◌≡◌, cond, ◌+◌, ◌-◌, ◌/◌, ◌≤◌, ◌<◌, ◌^◌, length, eqb};
-ghost use Rattle.stores.specs.FactsOutside.{outside};
+ghost use Rattle.label_tests.specs.FactsOutside.{outside};
 ghost use Rattle.ask_labels.specs.LabelShelf.{max_sets, no_entries, asked_of, put_entry, Shelved, HasRoom, ShelfRoom, LabelsGiven};
 ghost use Rattle.work_layout.specs.WorkLayout.{lists_at, lists_end};
-ghost use Rattle.sheets.specs.SheetLimits.{max_facts};
+ghost use Rattle.closure_table.specs.SheetLimits.{max_facts};
 
 use closure_table::sets_of;
 use label_search::labels_from;

@@ -7,20 +7,20 @@ use mathlib.Core.List.{List, ◌++◌, Memᴰ}
 use Rattle.std.proofs.Math.Seq.{take-append_seam, drop-append_seam}
 use Rattle.std.proofs.Math.Dec.{ltb}
 use borrow.Author.Tests.{ltb-true, ltb-false, lt-ltb, le-ltb}
-use Rattle.lists.specs.Lists.{select, any}
-use Rattle.list_laws.specs.AscendingLaws.{number_order, ascends_unique}
-use Rattle.stores.specs.Stores.{closure, strictly_below}
-use Rattle.sheets.specs.Refusals.{absent_fact, short_answer}
-use Rattle.sheets.specs.Sheet.{Sheet}
-use Rattle.sheets.specs.SheetBytes.{SheetIs}
-use Rattle.sheet_reading.specs.Reading.{Reading, got, refused, read_sheet}
-use Rattle.sheet_reading.specs.SheetRead.{sheet_reads}
-use Rattle.moves.specs.Moves.{count_up, labels}
-use Rattle.move_laws.specs.LabelLaws.{label_constraint, label_makes_true, label_minimal, label_below, labels_ascend}
-use Rattle.ordered_search.specs.OrderedSearch.{label_search}
+use Rattle.comparison_laws.specs.Lists.{select, any}
+use Rattle.comparison_laws.specs.AscendingLaws.{number_order, ascends_unique}
+use Rattle.comparison_laws.specs.Stores.{closure, strictly_below}
+use Rattle.comparison_laws.specs.Refusals.{absent_fact, short_answer}
+use Rattle.comparison_laws.specs.Sheet.{Sheet}
+use Rattle.comparison_laws.specs.SheetBytes.{SheetIs}
+use Rattle.comparison_laws.specs.Reading.{Reading, got, refused, read_sheet}
+use Rattle.comparison_laws.specs.SheetRead.{sheet_reads}
+use Rattle.comparison_laws.specs.Moves.{count_up, labels}
+use Rattle.comparison_laws.specs.LabelLaws.{label_constraint, label_makes_true, label_minimal, label_below, labels_ascend}
+use Rattle.search_laws.specs.OrderedSearch.{label_search}
 use Rattle.search_laws.specs.SearchLaws.{search_tried}
-use Rattle.comparison.specs.Outcome.{reported, refusal}
-use Rattle.comparison.specs.Frame.{with_room, with_sheet}
+use Rattle.comparison_laws.specs.Outcome.{reported, refusal}
+use Rattle.comparison_laws.specs.Frame.{with_room, with_sheet}
 use Rattle.comparison_laws.specs.RoomLaws.{room_short, room_given}
 use Rattle.comparison_laws.specs.FrameTheorem.{Decides, gives_report, gives_refusal}
 use Rattle.asked_labels.specs.AskedLabels.{AskedLabels, asked_on, Asks, with_facts, ask_labels, labels_after, labels_returned}

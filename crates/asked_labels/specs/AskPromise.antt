@@ -2,13 +2,13 @@
 -- of the sheet; of what is returned and of what stands in the slice afterwards.
 use Rattle.std.specs.Prelude.{◌≡◌, ◌↔◌, not, ℕ, ◌^◌, ◌≤◌, ◌<◌, length, take, drop, ltb}
 use mathlib.Core.List.{List, ◌++◌, Memᴰ}
-use Rattle.lists.specs.Lists.{select, any, Ascends}
-use Rattle.stores.specs.FactSets.{Within}
-use Rattle.stores.specs.Stores.{Constraint, closure, join, strictly_below}
-use Rattle.sheets.specs.Refusals.{absent_fact, short_answer}
-use Rattle.sheets.specs.Sheet.{Sheet}
-use Rattle.sheets.specs.SheetBytes.{SheetIs, SheetRefused}
-use Rattle.moves.specs.Moves.{count_up}
+use Rattle.comparison.specs.Lists.{select, any, Ascends}
+use Rattle.comparison.specs.FactSets.{Within}
+use Rattle.comparison.specs.Stores.{Constraint, closure, join, strictly_below}
+use Rattle.comparison.specs.Refusals.{absent_fact, short_answer}
+use Rattle.comparison.specs.Sheet.{Sheet}
+use Rattle.comparison.specs.SheetBytes.{SheetIs, SheetRefused}
+use Rattle.comparison.specs.Moves.{count_up}
 use Rattle.asked_labels.specs.AskedLabels.{asked_on}
 use Rattle.asked_labels.specs.declared.LabelsFound.{LabelsFound}
 use Rattle.asked_labels.specs.declared.LabelsAnswer.{LabelsAnswer}

@@ -1,11 +1,11 @@
 -- Document 02, card 5, the call for Engineering: the labels of an ask on a sheet, and how many sets the search for them does not skip. The
 -- store and the asked set are closed first; the labels are written in ascending order.
 use Rattle.std.specs.Prelude.{true, false, List, ℕ, ◌^◌, length, ltb}
-use Rattle.stores.specs.Stores.{closure}
-use Rattle.sheets.specs.Refusals.{absent_fact}
-use Rattle.sheets.specs.Sheet.{Sheet}
-use Rattle.sheet_reading.specs.Reading.{read_sheet}
-use Rattle.moves.specs.Moves.{labels}
+use Rattle.comparison.specs.Stores.{closure}
+use Rattle.comparison.specs.Refusals.{absent_fact}
+use Rattle.comparison.specs.Sheet.{Sheet}
+use Rattle.comparison.specs.Reading.{read_sheet}
+use Rattle.comparison.specs.Moves.{labels}
 use Rattle.ordered_search.specs.OrderedSearch.{label_search}
 use Rattle.comparison.specs.Outcome.{Outcome, reported, refusal, written_after}
 use Rattle.comparison.specs.Frame.{with_room, with_sheet}

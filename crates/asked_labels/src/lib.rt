@@ -1,4 +1,5 @@
 // What the call for the labels of an ask answers with (document 02, card 5): the types, the definition of the call and its promise. No functions.
+#![tactic(auto)]
 
 // How many labels stand in the slice, and how many sets the search did not skip.
 #[derive(Drop)]

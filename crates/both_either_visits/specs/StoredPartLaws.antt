@@ -4,18 +4,18 @@ use Rattle.std.specs.Prelude.{◌≡◌, refl, ◌⊎◌, Bool, true, false, con
 use Rattle.std.proofs.Common.{sym, ap, ◌∙◌, subst, inl, inr, ⊎_elim, arith}
 use mathlib.Core.List.Memᴰ
 use mathlib.Core.List.{List, [], ◌∷◌, ◌++◌, Memᴰ}
-use Rattle.lists.specs.Lists.{sort_up}
-use Rattle.list_laws.specs.SortingLaws.{insert_all}
-use Rattle.list_laws.specs.Frames.{SameOutside, outside_same, outside_wider}
-use Rattle.sheets.specs.Sheet.{Node, both, either, Sheet, node_of, opened}
-use Rattle.sheet_laws.specs.Ranks.{OfParts, Part, Ranked}
-use Rattle.moves.specs.Orders.{Move}
-use Rattle.node_moves.specs.NodeMoves.{NodeBeside, node_moves, placed_moves, movable}
-use Rattle.node_moves.specs.NodeMoveLaws.{moves_of_both, moves_of_either, still_node, movable_node}
-use Rattle.node_moves.specs.ThreadLaws.{insert_all_sorts, sort_append_length}
-use Rattle.comparison.specs.Promise.{PassesLimit}
-use Rattle.set_growth.specs.SetGrowth.{Growth, InHand}
-use Rattle.set_growth.specs.SetGrowthLaws.{move_threads_pass}
+use Rattle.nodes_to_visit.specs.Lists.{sort_up}
+use Rattle.sheet_types.specs.SortingLaws.{insert_all}
+use Rattle.nodes_to_visit.specs.Frames.{SameOutside, outside_same, outside_wider}
+use Rattle.sheet_types.specs.Sheet.{Node, both, either, Sheet, node_of, opened}
+use Rattle.threads_beside.specs.Ranks.{OfParts, Part, Ranked}
+use Rattle.nodes_to_visit.specs.Orders.{Move}
+use Rattle.threads_beside.specs.NodeMoves.{NodeBeside, node_moves, placed_moves, movable}
+use Rattle.threads_beside.specs.NodeMoveLaws.{moves_of_both, moves_of_either, still_node, movable_node}
+use Rattle.threads_beside.specs.ThreadLaws.{insert_all_sorts, sort_append_length}
+use Rattle.nodes_to_visit.specs.Promise.{PassesLimit}
+use Rattle.walk_state.specs.SetGrowth.{Growth, InHand}
+use Rattle.walk_state.specs.SetGrowthLaws.{move_threads_pass}
 use Rattle.nodes_to_visit.specs.NodesToVisit.{PendingPacked, Entered}
 use Rattle.nodes_to_visit.specs.NodesToVisitLaws.{weight, weight_none, weight_append, weight_next, weight_parts}
 use Rattle.walk_state.specs.declared.Basis.{Basis}
@@ -28,7 +28,7 @@ use Rattle.sheet_types.specs.NodeTable.{opened_of, movables_of}
 use Rattle.sheet_types.specs.HeldSheet.{opened_in}
 use Rattle.part_entry.specs.PartEntry.{beside_of, PassedOver, PartStored, PartTooLong, PartAs}
 use Rattle.both_either_visits.specs.StoredParts.{NodeKnown, BothTurned, EitherTurned}
-use Rattle.work_layout.specs.WorkLayout.{work_end, moves_at, pending_at, pending_end}
+use Rattle.nodes_to_visit.specs.WorkLayout.{work_end, moves_at, pending_at, pending_end}
 
 -- ---- marks
 still_mark : (x : Bool) (mark : ℕ) → mark ≡ cond x 1 0 → mark ≡ 0 → x ≡ false

@@ -1,9 +1,9 @@
 -- What storing the parts of a node that is made of two gives.
 use Rattle.std.specs.Prelude.{◌≡◌, cond, List, [], ◌∷◌, ℕ, get_or}
-use Rattle.sheets.specs.Sheet.{Node, both, either, node_of, opened}
+use Rattle.sheet_types.specs.Sheet.{Node, both, either, node_of, opened}
 use Rattle.sheet_types.specs.NodeTable.{opened_of, movables_of}
 use Rattle.sheet_types.specs.HeldSheet.{opened_in}
-use Rattle.node_moves.specs.NodeMoves.{NodeBeside, movable}
+use Rattle.threads_beside.specs.NodeMoves.{NodeBeside, movable}
 use Rattle.walk_state.specs.declared.Basis.{Basis}
 use Rattle.walk_state.specs.declared.Walk.{Walk}
 use Rattle.walk_state.specs.declared.Walked.{Walked}

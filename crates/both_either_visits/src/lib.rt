@@ -1,13 +1,15 @@
 // Nodes that are made of others: a both and an either, with threads beside them. Their parts are to be visited.
+#![tactic(auto)]
+
 ghost use Rattle.std.specs.Prelude.{ℕ, ◌+◌, ◌≤◌, ◌<◌, length, get_or};
-ghost use Rattle.sheet_laws.specs.Ranks.{Part, rank_of};
+ghost use Rattle.threads_beside.specs.Ranks.{Part, rank_of};
 ghost use Rattle.sheet_types.specs.NodeTable.{opened_of};
 ghost use Rattle.threads_beside.specs.ThreadsBeside.{node_beside};
 ghost use Rattle.nodes_to_visit.specs.NodesToVisit.{PendingPacked};
 ghost use Rattle.walk_state.specs.WalkState.{VisitFits, Walking};
 ghost use Rattle.both_either_visits.specs.StoredParts.{BothTurned, EitherTurned};
-ghost use Rattle.work_layout.specs.WorkLayout.{pending_end};
-ghost use Rattle.sheets.specs.SheetLimits.{max_nodes};
+ghost use Rattle.nodes_to_visit.specs.WorkLayout.{pending_end};
+ghost use Rattle.sheet_types.specs.SheetLimits.{max_nodes};
 
 use part_entry::push_beside;
 use sheet_types::TABLE_END;

@@ -2,14 +2,14 @@
 -- outcome.
 use Rattle.std.specs.Prelude.{◌≡◌, refl, Bool, true, false, cond, List, ◌++◌, ℕ, length, replicate, ltb}
 use Rattle.std.proofs.Common.{sym, ap, ◌∙◌}
-use Rattle.list_laws.specs.Frames.{SameOutside, outside_again, outside_drop}
-use Rattle.sheets.specs.Refusals.{short_answer}
-use Rattle.sheets.specs.Sheet.{Configuration, Sheet}
-use Rattle.sheet_reading.specs.Reading.{Reading}
-use Rattle.comparison.specs.CallLimits.{Limits, work_length}
-use Rattle.comparison.specs.Set.{explored}
-use Rattle.comparison.specs.Outcome.{Outcome, reported, refusal, written_after, cleared, work_after}
-use Rattle.comparison.specs.Frame.{with_room}
+use Rattle.work_layout.specs.Frames.{SameOutside, outside_again, outside_drop}
+use Rattle.sheet_types.specs.Refusals.{short_answer}
+use Rattle.sheet_types.specs.Sheet.{Configuration, Sheet}
+use Rattle.sheet_types.specs.Reading.{Reading}
+use Rattle.work_layout.specs.CallLimits.{Limits, work_length}
+use Rattle.work_layout.specs.Set.{explored}
+use Rattle.work_layout.specs.Outcome.{Outcome, reported, refusal, written_after, cleared, work_after}
+use Rattle.work_layout.specs.Frame.{with_room}
 use Rattle.work_layout.specs.WorkLayout.{work_end}
 use Rattle.call_frame.specs.declared.Begun.{Begun}
 use Rattle.call_frame.specs.declared.Begun.TheVariants.{Refused}

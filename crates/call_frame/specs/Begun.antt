@@ -1,15 +1,15 @@
 -- What a call has once its set was asked for: the set, whole and in order in the work slice, or a refusal.
 use Rattle.std.specs.Prelude.{◌≡◌, Bool, List, ℕ, ◌≤◌, ◌<◌, length}
-use Rattle.sheets.specs.SheetLimits.{max_starts, max_threads}
-use Rattle.sheets.specs.Refusals.{large_set, short_work}
-use Rattle.sheets.specs.Sheet.{Configuration, Sheet, start}
-use Rattle.sheet_reading.specs.Reading.{Reading, got, refused, read_sheet, read_choice}
-use Rattle.comparison.specs.CallLimits.{Limits}
-use Rattle.comparison.specs.Outcome.{cleared}
-use Rattle.comparison.specs.Promise.{PassesLimit, starts_of}
+use Rattle.sheet_types.specs.SheetLimits.{max_starts, max_threads}
+use Rattle.sheet_types.specs.Refusals.{large_set, short_work}
+use Rattle.sheet_types.specs.Sheet.{Configuration, Sheet, start}
+use Rattle.sheet_types.specs.Reading.{Reading, got, refused, read_sheet, read_choice}
+use Rattle.work_layout.specs.CallLimits.{Limits}
+use Rattle.work_layout.specs.Outcome.{cleared}
+use Rattle.work_layout.specs.Promise.{PassesLimit, starts_of}
 use Rattle.work_layout.specs.WorkLayout.{work_end}
 use Rattle.sheet_types.specs.HeldSheet.{configuration, starts_in}
-use Rattle.start_reader.specs.StartsFound.{FewThreads}
+use Rattle.sheet_reader.specs.StartsFound.{FewThreads}
 use Rattle.found_set.specs.FoundSet.{SetWhole}
 use Rattle.call_seeds.specs.Choice.{seeds_from}
 use Rattle.call_frame.specs.declared.Begun.{Begun}

@@ -2,29 +2,29 @@
 -- on with where it is not.
 use Rattle.std.specs.Prelude.{◌≡◌, refl, Bool, true, false, cond, ◌||◌, List, ◌++◌, ℕ, ◌≤◌, ◌<◌, length, get_or, replicate, ltb}
 use Rattle.std.proofs.Common.{sym, ap, ap₂, ◌∙◌, subst, arith, lt-ltb, le-ltb, ne_eqb}
-use Rattle.list_laws.specs.Frames.{outside_drop}
-use Rattle.list_laws.specs.Tabulate.{tabulate_length, tabulate_at}
-use Rattle.list_laws.specs.ListPlaces.{get_d_any}
-use Rattle.sheets.specs.SheetLimits.{max_threads}
-use Rattle.sheets.specs.Refusals.{large_set, short_answer, short_work}
-use Rattle.sheets.specs.Sheet as spec
-use Rattle.sheets.specs.WellFormed.{Admissible}
-use Rattle.sheet_reading.specs.Reading.{Reading, got, refused, read_sheet, read_choice}
-use Rattle.sheet_reading.specs.Sound.{got_not_refused}
-use Rattle.sheet_reading.specs.SheetRead.{same_sheet, sheet_reads, choice_reads}
-use Rattle.sheet_laws.specs.ReadingLaws.{written_admissible}
-use Rattle.sheet_laws.specs.RefusalNumbers.{Numbered, sheet_number_low, number_low}
-use Rattle.comparison.specs.CallLimits.{Limits, work_length}
-use Rattle.comparison.specs.Set.{explored, fits}
-use Rattle.comparison.specs.Outcome.{Outcome, refusal, cleared, clears, work_refused}
-use Rattle.comparison.specs.Frame.{with_set, with_work, with_sheet}
-use Rattle.comparison_laws.specs.SetLaws.{fits_exactly}
+use Rattle.work_layout.specs.Frames.{outside_drop}
+use Rattle.collected_moves.specs.Tabulate.{tabulate_length, tabulate_at}
+use Rattle.collected_moves.specs.ListPlaces.{get_d_any}
+use Rattle.sheet_types.specs.SheetLimits.{max_threads}
+use Rattle.sheet_types.specs.Refusals.{large_set, short_answer, short_work}
+use Rattle.sheet_types.specs.Sheet as spec
+use Rattle.sheet_types.specs.WellFormed.{Admissible}
+use Rattle.sheet_types.specs.Reading.{Reading, got, refused, read_sheet, read_choice}
+use Rattle.sheet_types.specs.Sound.{got_not_refused}
+use Rattle.sheet_types.specs.SheetRead.{same_sheet, sheet_reads, choice_reads}
+use Rattle.sheet_reader.specs.ReadingLaws.{written_admissible}
+use Rattle.sheet_reader.specs.RefusalNumbers.{Numbered, sheet_number_low, number_low}
+use Rattle.work_layout.specs.CallLimits.{Limits, work_length}
+use Rattle.work_layout.specs.Set.{explored, fits}
+use Rattle.work_layout.specs.Outcome.{Outcome, refusal, cleared, clears, work_refused}
+use Rattle.work_layout.specs.Frame.{with_set, with_work, with_sheet}
+use Rattle.found_set.specs.SetLaws.{fits_exactly}
 use Rattle.work_layout.specs.WorkLayout.{work_end, member_room}
 use Rattle.sheet_types.specs.declared.Configuration.{Configuration}
 use Rattle.sheet_types.specs.declared.Sheet.{Sheet}
 use Rattle.sheet_types.specs.HeldSheet.{configuration, no_configuration, starts_in, sheet_of}
 use Rattle.found_set.specs.FoundSet.{SetWhole, SetPasses}
-use Rattle.comparison.specs.Promise.{starts_of}
+use Rattle.work_layout.specs.Promise.{starts_of}
 use Rattle.call_seeds.specs.Choice.{seeds_from, SeedsAre}
 use Rattle.call_seeds.specs.ChoiceLaws.{first_choice}
 use Rattle.call_frame.specs.declared.Begun.{Begun}

@@ -1,3 +1,17 @@
+pub use Rattle.work_layout.specs.CallLimits
+pub use Rattle.found_set.specs.FoundSet
+pub use Rattle.work_layout.specs.Frame
+pub use Rattle.found_set.specs.FrameTheorem
+pub use Rattle.found_set.specs.LimitLaws
+pub use Rattle.work_layout.specs.Outcome
+pub use Rattle.work_layout.specs.Promise
+pub use Rattle.sheet_reader.specs.RefusalNumbers
+pub use Rattle.sheet_types.specs.Refusals
+pub use Rattle.found_set.specs.Seeds
+pub use Rattle.work_layout.specs.Set
+pub use Rattle.sheet_types.specs.Sheet
+pub use Rattle.sheet_types.specs.SheetBytes
+pub use Rattle.work_layout.specs.WorkLayout
 pub mod Begun
 pub mod BegunLaws
 pub mod Answered

@@ -1,11 +1,13 @@
 // What every call begins with: the sheet read, starts chosen, the work slice long enough, and the set of the starts worked out in
 // it. A call goes on from the set that stands there, and clears the work slice at the end.
-ghost use Rattle.sheets.specs.WellFormed.{Admissible};
+#![tactic(auto)]
+
+ghost use Rattle.sheet_types.specs.WellFormed.{Admissible};
 ghost use Rattle.sheet_types.specs.HeldSheet.{starts_in, sheet_of, nodes_in};
 ghost use Rattle.sheet_types.specs.NodeTable.{nodes_of};
-ghost use Rattle.movable_nodes.specs.NodeTables.{NodeTable};
-ghost use Rattle.comparison.specs.CallLimits.{limits};
-ghost use Rattle.seed_members.specs.Seeds.{CapsFit};
+ghost use Rattle.sheet_reader.specs.NodeTables.{NodeTable};
+ghost use Rattle.work_layout.specs.CallLimits.{limits};
+ghost use Rattle.found_set.specs.Seeds.{CapsFit};
 ghost use Rattle.found_set.specs.FoundSet.{limits_of, SeedsFit};
 ghost use Rattle.call_seeds.specs.Choice.{ChoiceHeld, seeds_from};
 ghost use Rattle.call_frame.specs.Begun.{BegunAs, ChoiceSet, SeedsBegun, ReadBegun, PairBegun, AllBegun};

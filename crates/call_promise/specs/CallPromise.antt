@@ -2,13 +2,13 @@
 -- demand 3 in it. A report is the one that is read back from the returned value and the answer's bytes. Document 01's call has it
 -- at document 01's limits.
 use Rattle.std.specs.Prelude.{◌≡◌, Bool, true, false, List, ◌++◌, ℕ, length, drop}
-use Rattle.sheets.specs.Sheet.{Sheet, start}
-use Rattle.sheets.specs.SheetBytes.{ChoiceIs}
-use Rattle.comparison.specs.CallLimits.{Limits}
-use Rattle.comparison.specs.Report as spec
-use Rattle.comparison.specs.Report.{Verdict, SAME, DIFF, report_bytes, report_length}
-use Rattle.comparison.specs.Outcome.{cleared}
-use Rattle.comparison.specs.Promise.{PromiseBy, Refuses, Reports, Faithful}
+use Rattle.answers.specs.Sheet.{Sheet, start}
+use Rattle.answers.specs.SheetBytes.{ChoiceIs}
+use Rattle.answers.specs.CallLimits.{Limits}
+use Rattle.answers.specs.Report as spec
+use Rattle.answers.specs.Report.{Verdict, SAME, DIFF, report_bytes, report_length}
+use Rattle.answers.specs.Outcome.{cleared}
+use Rattle.answers.specs.Promise.{PromiseBy, Refuses, Reports, Faithful}
 use Rattle.answers.specs.ReadBack.{read_back_lem}
 use Rattle.answers.specs.declared.Reported.{Reported}
 use Rattle.answers.specs.declared.Answer.{Answer}

@@ -1,11 +1,11 @@
 -- Document 02, card 3, sentence by sentence, in other words than `TwoCalls` has them: what follows for a caller who has both answers.
 use Rattle.std.specs.Prelude.{◌≡◌, ◌⊎◌, List, ℕ, take}
 use Rattle.std.proofs.Common.{sym, ap, ◌∙◌, ⊎_elim, arith}
-use Rattle.sheets.specs.Refusals.{large_set, short_answer}
-use Rattle.sheets.specs.Sheet.{Sheet}
-use Rattle.sheets.specs.SheetBytes.{ChoiceIs}
-use Rattle.comparison.specs.CallLimits.{Limits}
-use Rattle.comparison.specs.Promise.{PassesLimit, starts_of}
+use Rattle.answers.specs.Refusals.{large_set, short_answer}
+use Rattle.answers.specs.Sheet.{Sheet}
+use Rattle.answers.specs.SheetBytes.{ChoiceIs}
+use Rattle.answers.specs.CallLimits.{Limits}
+use Rattle.answers.specs.Promise.{PassesLimit, starts_of}
 use Rattle.answers.specs.declared.Reported.{Reported}
 use Rattle.answers.specs.declared.Answer.{Answer}
 use Rattle.answers.specs.declared.Answer.TheVariants.{Report, Refused}

@@ -1,11 +1,11 @@
 -- Two calls on one sheet and one choice, side by side: said of what was returned and of what stands in the slices afterwards. Document
 -- 02, card 3, is about two calls that differ in their limits alone.
 use Rattle.std.specs.Prelude.{◌≡◌, ◌⊎◌, List, ℕ, take}
-use Rattle.sheets.specs.Refusals.{large_set, short_answer}
-use Rattle.sheets.specs.Sheet.{Sheet}
-use Rattle.sheets.specs.SheetBytes.{ChoiceIs}
-use Rattle.comparison.specs.CallLimits.{Limits}
-use Rattle.comparison.specs.Promise.{PassesLimit, starts_of}
+use Rattle.answers.specs.Refusals.{large_set, short_answer}
+use Rattle.answers.specs.Sheet.{Sheet}
+use Rattle.answers.specs.SheetBytes.{ChoiceIs}
+use Rattle.answers.specs.CallLimits.{Limits}
+use Rattle.answers.specs.Promise.{PassesLimit, starts_of}
 use Rattle.answers.specs.declared.Reported.{Reported}
 use Rattle.answers.specs.declared.Answer.{Answer}
 use Rattle.answers.specs.declared.Answer.TheVariants.{Refused}

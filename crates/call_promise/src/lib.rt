@@ -1,1 +1,2 @@
 // What is promised of the comparing call: the statement. No functions.
+#![tactic(auto)]

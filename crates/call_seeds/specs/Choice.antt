@@ -1,15 +1,15 @@
 -- A sheet that is held, two starts chosen on it, and the seeds that are made of them.
 use Rattle.std.specs.Prelude.{◌≡◌, Bool, true, false, cond, List, ℕ, ◌≤◌, ◌<◌, length, get_or, set}
-use Rattle.sheets.specs.SheetLimits.{max_starts}
-use Rattle.sheets.specs.Sheet as spec
-use Rattle.sheets.specs.WellFormed.{Admissible}
-use Rattle.comparison.specs.Promise.{starts_of}
+use Rattle.sheet_types.specs.SheetLimits.{max_starts}
+use Rattle.sheet_types.specs.Sheet as spec
+use Rattle.sheet_types.specs.WellFormed.{Admissible}
+use Rattle.work_layout.specs.Promise.{starts_of}
 use Rattle.sheet_types.specs.HeldSheet.{nodes_in, no_configuration, starts_in, sheet_of}
 use Rattle.sheet_types.specs.NodeTable.{nodes_of}
 use Rattle.sheet_types.specs.declared.Configuration.{Configuration}
 use Rattle.sheet_types.specs.declared.Sheet.{Sheet}
-use Rattle.movable_nodes.specs.NodeTables.{NodeTable}
-use Rattle.start_reader.specs.StartsFound.{FewThreads}
+use Rattle.sheet_reader.specs.NodeTables.{NodeTable}
+use Rattle.sheet_reader.specs.StartsFound.{FewThreads}
 use Rattle.found_set.specs.FoundSet.{SeedsFit}
 
 -- A sheet is held, and its starts can be seeds.

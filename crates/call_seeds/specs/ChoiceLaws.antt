@@ -1,16 +1,16 @@
 -- What follows of a sheet that was read, with a choice or without: it is well formed, and its starts are configurations of it with few
 -- threads.
 use Rattle.std.specs.Prelude.{◌≡◌, refl, Bool, true, false, List, [], ◌∷◌, ℕ, zero, suc, ◌≤◌, ◌<◌, length, get_or, set}
-use Rattle.std.proofs.Common.{sym, ap, ap₂, ◌∙◌, subst, arith, length-set, get_or-set_same, get_or_set_other}
-use Rattle.list_laws.specs.Tabulate.{tabulate, tabulate_length, tabulate_at}
-use Rattle.list_laws.specs.ListPlaces.{get_d_in}
-use Rattle.sheets.specs.SheetLimits.{max_starts, max_threads}
-use Rattle.sheets.specs.Sheet as spec
-use Rattle.sheets.specs.WellFormed.{Admissible, OfSheet}
-use Rattle.sheets.specs.SheetBytes.{ChoiceIs}
-use Rattle.sheet_reading.specs.Reading.{Reading, got, refused, read_sheet, read_choice}
-use Rattle.sheet_reading.specs.SheetRead.{sheet_reads, choice_reads}
-use Rattle.sheet_laws.specs.ReadingLaws.{written_admissible, choice_no_sheet}
+use Rattle.std.proofs.Common.{sym, ap, ap₂, ◌∙◌, subst, arith, length-set, get_or-set_same, get_or-set_other}
+use Rattle.collected_moves.specs.Tabulate.{tabulate, tabulate_length, tabulate_at}
+use Rattle.collected_moves.specs.ListPlaces.{get_d_in}
+use Rattle.sheet_types.specs.SheetLimits.{max_starts, max_threads}
+use Rattle.sheet_types.specs.Sheet as spec
+use Rattle.sheet_types.specs.WellFormed.{Admissible, OfSheet}
+use Rattle.sheet_types.specs.SheetBytes.{ChoiceIs}
+use Rattle.sheet_types.specs.Reading.{Reading, got, refused, read_sheet, read_choice}
+use Rattle.sheet_types.specs.SheetRead.{sheet_reads, choice_reads}
+use Rattle.sheet_reader.specs.ReadingLaws.{written_admissible, choice_no_sheet}
 use Rattle.sheet_types.specs.HeldSheet.{configuration, no_configuration, starts_in, sheet_of}
 use Rattle.sheet_types.specs.SectionLaws.{with_got}
 use Rattle.sheet_types.specs.declared.Configuration.{Configuration}
@@ -19,8 +19,8 @@ use Rattle.sheet_types.specs.declared.Sheet.{Sheet}
 use Rattle.sheet_types.specs.declared.SheetRead.{SheetRead}
 use Rattle.sheet_reader.specs.SheetFound.{SheetFound}
 use Rattle.found_set.specs.FoundSet.{SeedsFit}
-use Rattle.sheets.specs.Sheet.{start}
-use Rattle.comparison.specs.Promise.{starts_of}
+use Rattle.sheet_types.specs.Sheet.{start}
+use Rattle.work_layout.specs.Promise.{starts_of}
 use Rattle.call_seeds.specs.Choice.{SheetReady, ChoiceHeld, Seeds, seeds_from, seeds_held, seed_count, SeedsAre}
 
 -- as many starts as are held
@@ -80,7 +80,7 @@ seeds_stored starts seeds left right long e =
     record {
       first =
           ap (λ (l : List Configuration). get_or l 0 no_configuration) e
-          ∙ get_or_set_other (set starts 0 p) 1 0 q no_configuration (omega arith)
+          ∙ get_or-set_other (set starts 0 p) 1 0 q no_configuration (omega arith)
           ∙ get_or-set_same starts 0 p no_configuration (omega arith);
       second =
           ap (λ (l : List Configuration). get_or l 1 no_configuration) e

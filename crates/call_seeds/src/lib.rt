@@ -1,10 +1,12 @@
 // Where a call begins: the starts that are its seeds, and the limits of each call as caps.
+#![tactic(auto)]
+
 ghost use Rattle.std.specs.Prelude.{◌≡◌, ◌<◌, get_or, set};
 ghost use Rattle.sheet_types.specs.HeldSheet.{no_configuration};
-ghost use Rattle.comparison.specs.CallLimits.{limits, desk_limits};
-ghost use Rattle.seed_members.specs.Seeds.{CapsFit};
+ghost use Rattle.work_layout.specs.CallLimits.{limits, desk_limits};
+ghost use Rattle.found_set.specs.Seeds.{CapsFit};
 ghost use Rattle.found_set.specs.FoundSet.{limits_of};
-ghost use Rattle.sheets.specs.SheetLimits.{max_starts};
+ghost use Rattle.sheet_types.specs.SheetLimits.{max_starts};
 ghost use Rattle.call_seeds.specs.Choice.{seeds_held, seed_count};
 
 use collected_moves::Caps;

@@ -1,15 +1,15 @@
 -- The call keeps its promise.
 use Rattle.std.specs.Prelude.{◌≡◌, refl, List, ◌++◌, ℕ, length, drop}
 use Rattle.std.proofs.Common.{sym, ap, ap₂, ◌∙◌, subst}
-use Rattle.sheets.specs.Sheet.{start}
-use Rattle.comparison.specs.CallLimits.{Limits, NoGreater, limits, desk_limits}
-use Rattle.comparison.specs.Report as spec
-use Rattle.comparison.specs.Report.{Verdict, SAME, DIFF, report_bytes, report_length}
-use Rattle.comparison.specs.Outcome.{reported, cleared}
-use Rattle.comparison.specs.Call.{compare_with, compare, compare_desk, answer_after}
-use Rattle.comparison.specs.Promise.{Refuses, Reports, Faithful}
-use Rattle.comparison_laws.specs.CallTheorem.{refuses_exactly, reports_exactly, call_faithful}
-use Rattle.comparison_laws.specs.LimitLaws.{own_limits, desk_no_greater}
+use Rattle.answers.specs.Sheet.{start}
+use Rattle.answers.specs.CallLimits.{Limits, NoGreater, limits, desk_limits}
+use Rattle.answers.specs.Report as spec
+use Rattle.answers.specs.Report.{Verdict, SAME, DIFF, report_bytes, report_length}
+use Rattle.answers.specs.Outcome.{reported, cleared}
+use Rattle.answers.specs.Call.{compare_with, compare, compare_desk, answer_after}
+use Rattle.answers.specs.Promise.{Refuses, Reports, Faithful}
+use Rattle.compare_call.specs.CallTheorem.{refuses_exactly, reports_exactly, call_faithful}
+use Rattle.compare_call.specs.LimitLaws.{own_limits, desk_no_greater}
 use Rattle.answers.specs.declared.Reported.{Reported}
 use Rattle.answers.specs.declared.Answer.{Answer}
 use Rattle.answers.specs.declared.Answer.TheVariants.{Report, Refused}
@@ -20,8 +20,8 @@ use Rattle.answers.specs.ReadBack.{read_back_lem}
 use Rattle.answer_laws.specs.ReadBackLaws.{read_back}
 use Rattle.promise_laws.specs.PromiseKept.{Variants, promise_kept}
 use Rattle.compare_call.specs.Compared.{Compared}
-use Rattle.call_promise.specs.TwoCallSentences.{report_never}
-use Rattle.call_promise.specs.CallPromise.{verdict_read, report_read, ReportPromise, CallPromise}
+use Rattle.promise_laws.specs.TwoCallSentences.{report_never}
+use Rattle.promise_laws.specs.CallPromise.{verdict_read, report_read, ReportPromise, CallPromise}
 
 -- a report that was returned is one
 pub same_report : {x y : Reported} → Report x ≡ Report y → x ≡ y

@@ -1,10 +1,10 @@
 -- The promise fixes the call: of the same input, what two calls that keep it return and leave in both slices is the same.
 use Rattle.std.specs.Prelude.{List, ℕ, length}
-use Rattle.comparison.specs.CallLimits.{Limits}
-use Rattle.comparison_laws.specs.CallTheorem.{call_gives}
+use Rattle.answers.specs.CallLimits.{Limits}
+use Rattle.compare_call.specs.CallTheorem.{call_gives}
 use Rattle.answers.specs.declared.Answer.{Answer}
-use Rattle.call_promise.specs.CallPromise.{CallPromise}
-use Rattle.call_promise.specs.TwoCalls.{OneCall}
+use Rattle.promise_laws.specs.CallPromise.{CallPromise}
+use Rattle.promise_laws.specs.TwoCalls.{OneCall}
 use Rattle.promise_laws.specs.PromiseAlone as every
 use Rattle.promise_laws.specs.PromiseLower.{one_call}
 use Rattle.call_theorem.specs.TwoCallLaws.{report_fixes}

@@ -2,26 +2,26 @@
 use Rattle.std.specs.Prelude.{◌≡◌, refl, List, ◌++◌, ℕ, ◌≤◌, length, take, drop}
 use Rattle.std.proofs.Common.{sym, ap, ◌∙◌, arith}
 use Rattle.std.proofs.Math.Seq.{take-append_seam}
-use Rattle.sheets.specs.Refusals.{short_answer}
-use Rattle.sheets.specs.SheetBytes.{ChoiceIs, ChoiceRefused}
-use Rattle.sheet_reading.specs.SheetRead.{choice_reads}
-use Rattle.sheet_laws.specs.RefusalNumbers.{number_low}
-use Rattle.comparison.specs.CallLimits.{Limits, NoGreater, limits, desk_limits, report_room}
-use Rattle.comparison.specs.Report as spec
-use Rattle.comparison.specs.Report.{report_bytes, report_length}
-use Rattle.comparison.specs.Call.{compare, compare_desk}
-use Rattle.comparison.specs.Promise.{report_for, starts_of, Reports}
-use Rattle.comparison_laws.specs.CallTheorem.{call_gives, report_room_lem, room_suffices}
-use Rattle.comparison_laws.specs.RoomLaws.{never_short_answer}
-use Rattle.comparison_laws.specs.LimitLaws.{desk_no_greater, report_same, gives_same, one_choice}
+use Rattle.answers.specs.Refusals.{short_answer}
+use Rattle.answers.specs.SheetBytes.{ChoiceIs, ChoiceRefused}
+use Rattle.answers.specs.SheetRead.{choice_reads}
+use Rattle.compare_call.specs.RefusalNumbers.{number_low}
+use Rattle.answers.specs.CallLimits.{Limits, NoGreater, limits, desk_limits, report_room}
+use Rattle.answers.specs.Report as spec
+use Rattle.answers.specs.Report.{report_bytes, report_length}
+use Rattle.answers.specs.Call.{compare, compare_desk}
+use Rattle.answers.specs.Promise.{report_for, starts_of, Reports}
+use Rattle.compare_call.specs.CallTheorem.{call_gives, report_room_lem, room_suffices}
+use Rattle.answer_laws.specs.RoomLaws.{never_short_answer}
+use Rattle.compare_call.specs.LimitLaws.{desk_no_greater, report_same, gives_same, one_choice}
 use Rattle.answers.specs.declared.Reported.{Reported}
 use Rattle.answers.specs.declared.Answer.{Answer}
 use Rattle.answers.specs.declared.Answer.TheVariants.{Report, Refused}
 use Rattle.answers.specs.Returned.{returned_of}
 use Rattle.promise_laws.specs.PromiseLower.{lower_kept}
 use Rattle.compare_call.specs.Compared.{Compared}
-use Rattle.call_promise.specs.CallPromise.{report_read, ReportPromise, CallPromise}
-use Rattle.call_promise.specs.TwoCalls.{OneReport, LowerCall}
+use Rattle.promise_laws.specs.CallPromise.{report_read, ReportPromise, CallPromise}
+use Rattle.promise_laws.specs.TwoCalls.{OneReport, LowerCall}
 use Rattle.call_theorem.specs.CallPromiseLaws.{same_report, document_promise, desk_promise}
 
 -- ---- a report, whatever the slices

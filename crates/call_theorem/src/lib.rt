@@ -1,1 +1,2 @@
 // The comparing call keeps its promise: the proof. No functions.
+#![tactic(auto)]

@@ -1,12 +1,12 @@
 -- Laws of places, of bytes of a class, and of digits read one after another.
 use Rattle.std.specs.Prelude.{◌≡◌, refl, Bool, true, false, cond, ◌&&◌, ◌||◌, List, [], ◌∷◌, ◌++◌, ◌⊎◌, ℕ, zero, suc, ◌+◌, ◌*◌, ◌-◌, ◌/◌, ◌^◌, ◌≤◌, ◌<◌, length, get_or, take, drop, set, eqb, leb}
 use Rattle.std.proofs.Math.Path.{sym}
-use Rattle.std.proofs.Common.{ap, ◌∙◌, inl, inr, ⊎_elim, pow-suc, add-one, arith, length-append, length-drop, drop_of_length-le, drop-cons, take-suc, eq_eqb, ne_eqb, leb-true}
+use Rattle.std.proofs.Common.{ap, ◌∙◌, inl, inr, ⊎_elim, pow-suc, add-one, arith, length-append, length-drop, drop_of_length-le, drop-cons, take-suc, eq-eqb, ne_eqb, leb-true}
 use Rattle.std.proofs.Math.Nat.{pow-le-pow_right}
 use Rattle.std.proofs.lemmas.List.{set_at}
 use Rattle.std.proofs.Math.Seq.{append_snoc}
 use Rattle.list_laws.specs.TestLaws.{and_left, and_right}
-use Rattle.lists.specs.Lists.{all, same_numbers}
+use Rattle.list_laws.specs.Lists.{all, same_numbers}
 use Rattle.list_laws.specs.Tabulate.{tabulate, tabulate_next, tabulate_length}
 use Rattle.printed_lines.specs.Decimal.{value_from, value}
 use Rattle.printed_lines.specs.Lines.{space}
@@ -24,7 +24,7 @@ use Rattle.case_lines.specs.declared.Class.TheVariants.{Hex}
 -- ---- places
 pub end_there : (stop : ℕ) (s : List ℕ) (i : ℕ) → i < length s → get_or s i 0 ≡ stop → end_from stop s i ≡ i
 unfolding before
-end_there stop s i h e = rw (drop-cons s i 0 h, before, eq_eqb (get_or s i 0) stop e) (omega arith)
+end_there stop s i h e = rw (drop-cons s i 0 h, before, eq-eqb (get_or s i 0) stop e) (omega arith)
 
 pub end_further : (stop : ℕ) (s : List ℕ) (i : ℕ) → i < length s → (get_or s i 0 ≡ stop → ⊥) → end_from stop s i ≡ end_from stop s (i + 1)
 unfolding before
@@ -121,7 +121,7 @@ decoded_some h e = record { count = rw h; slice = rw h e }
 pub same_here : (s t : List ℕ) (i : ℕ) → i < length s → i < length t → get_or s i 0 ≡ get_or t i 0
     → same_numbers (drop i s) (drop i t) ≡ same_numbers (drop (i + 1) s) (drop (i + 1) t)
 same_here s t i h k e =
-    rw (drop-cons s i 0 h, drop-cons t i 0 k, eq_eqb (get_or s i 0) (get_or t i 0) e, add-one i)
+    rw (drop-cons s i 0 h, drop-cons t i 0 k, eq-eqb (get_or s i 0) (get_or t i 0) e, add-one i)
 
 pub same_not : (s t : List ℕ) (i : ℕ) → i < length s → i < length t → (get_or s i 0 ≡ get_or t i 0 → ⊥)
     → same_numbers (drop i s) (drop i t) ≡ false

@@ -1,6 +1,6 @@
 -- Lines of cases: where a field or a line ends, and what stands in it.
 use Rattle.std.specs.Prelude.{◌≡◌, Bool, cond, not, ◌&&◌, ◌||◌, List, [], ◌∷◌, ◌++◌, ℕ, suc, ◌+◌, ◌*◌, ◌-◌, ◌/◌, ◌%◌, ◌≤◌, min, length, get_or, take, drop, eqb, leb, ltb}
-use Rattle.lists.specs.Lists.{all, same_numbers}
+use Rattle.list_laws.specs.Lists.{all, same_numbers}
 use Rattle.list_laws.specs.Tabulate.{tabulate}
 use Rattle.printed_lines.specs.Decimal.{value}
 use Rattle.printed_lines.specs.Lines.{space}

@@ -1,7 +1,9 @@
 // Lines of a list of cases: the call that is meant, a name, two numbers in decimal, and a sheet as hex digits, parted by one space
 // each. A line that is empty or begins with # is passed over.
+#![tactic(auto)]
+
 ghost use Rattle.std.specs.Prelude.{◌≡◌, true, ◌++◌, ◌*◌, ◌≤◌, ◌<◌, length, drop};
-ghost use Rattle.lists.specs.Lists.{all, same_numbers};
+ghost use Rattle.list_laws.specs.Lists.{all, same_numbers};
 ghost use Rattle.list_laws.specs.Tabulate.{tabulate};
 ghost use Rattle.printed_lines.specs.Decimal.{value};
 ghost use Rattle.case_lines.specs.Lines.{end_from, after_from, field_at, between, dash_or_letter, in_class, hex_digit, byte_of, most_digits, number_of, call_of, wrong_name, Decoded, passed_over, case_of, line_of};
@@ -14,7 +16,7 @@ const HASH: u8 = 35;
 const MOST_DIGITS: usize = 19;
 
 // What a byte may be: a decimal digit, a hex digit, a byte of a name.
-#[derive(Drop)]
+#[derive(Clone, Copy)]
 enum Class {
     Digit,
     Hex,

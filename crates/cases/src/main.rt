@@ -6,6 +6,8 @@
 // that the starts reach, finds the same verdict, round and classes; and after a grouping of all starts, or its refusal 21, a line says what
 // the comparing call finds of every two starts. After an answer of so many rounds a line says what the desk's call gives of the same input,
 // and one whether the largest number of rounds gives the verdict, members and classes of the comparing call. All cases share one work slice, which is not cleared between them.
+#![tactic(auto)]
+
 ghost use Rattle.std.specs.Prelude.{◌≡◌, ◌≤◌, length, take};
 ghost use Rattle.case_lines.specs.Lines.{Inside};
 

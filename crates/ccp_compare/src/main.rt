@@ -1,5 +1,7 @@
 // Reads a sheet from standard input, compares its starts 0 and 1 and prints the report or the refusal. A sheet has at most 724
 // bytes, so one byte more is enough to refuse a longer input.
+#![tactic(auto)]
+
 use libc::{STDIN_FILENO, STDOUT_FILENO};
 
 fn main() {

@@ -1,3 +1,13 @@
+pub use Rattle.round_steps.specs.ChosenPlaces
+pub use Rattle.dominators.specs.ClassBirths
+pub use Rattle.dominators.specs.ClassPlaces
+pub use Rattle.dominators.specs.ClassTotals
+pub use Rattle.round_steps.specs.ClassedPlaces
+pub use Rattle.dominators.specs.ResultLaws
+pub use Rattle.dominators.specs.RoundLaws
+pub use Rattle.dominators.specs.RoundLayout
+pub use Rattle.dominators.specs.SetClasses
+pub use Rattle.round_steps.specs.StoreLaws
 pub mod RoundAtHand
 pub mod NextClasses
 pub mod RoundsDone

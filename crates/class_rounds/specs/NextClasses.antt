@@ -1,15 +1,15 @@
 -- All places are done: their classes are those of the next round.
 use Rattle.std.specs.Prelude.{◌≡◌, ◌↔◌, ◌⊎◌, List, ℕ, zero, suc, ◌+◌, ◌/◌, ◌%◌, ◌≤◌, ◌<◌, length, ltb}
 use Rattle.std.proofs.Common.{sym, ap, ◌∙◌, subst, inl, inr, arith, add-one, ltb-true, ltb-false}
-use Rattle.list_laws.specs.TestLaws.{Tested, tested, passes, fails}
-use Rattle.sheets.specs.Sheet.{Configuration, Sheet}
-use Rattle.kept_classes.specs.ClassBirths.{Births}
-use Rattle.kept_classes.specs.ClassesPresent.{births_agree, births_more, present_next}
-use Rattle.class_splits.specs.ClassedPlaces.{chosen_in}
-use Rattle.class_splits.specs.LineTests.{lines_held}
+use Rattle.round_lines.specs.TestLaws.{Tested, tested, passes, fails}
+use Rattle.dominators.specs.Sheet.{Configuration, Sheet}
+use Rattle.dominators.specs.ClassBirths.{Births}
+use Rattle.dominators.specs.ClassesPresent.{births_agree, births_more, present_next}
+use Rattle.round_steps.specs.ClassedPlaces.{chosen_in}
+use Rattle.round_steps.specs.LineTests.{lines_held}
 use Rattle.class_rounds.specs.RoundAtHand.{TogetherHeld, PresentHeld, Stage, stage_count, stage_next}
 use Rattle.round_steps.specs.SplitRounds.{Splitting}
-use Rattle.work_layout.specs.ClassLayout.{class_in, born_in, from_in_lem}
+use Rattle.former_classes.specs.ClassLayout.{class_in, born_in, from_in_lem}
 
 module _ {sheet : Sheet} {set : List Configuration} {v : List ℕ} {n m r old : ℕ} (S : Stage sheet set v n m r old)
     {w : List ℕ} {count : ℕ} (Z : Splitting v n (r + 1) old w count (λ i. i < n)) where

@@ -1,24 +1,24 @@
 -- A round at hand: the set stands in the slice with its present classes, and with the lines of every member in these classes.
 use Rattle.std.specs.Prelude.{◌≡◌, refl, ◌↔◌, List, ℕ, suc, ◌+◌, ◌/◌, ◌%◌, ◌<◌, length, get_or}
 use Rattle.std.proofs.Common.{sym, ap, ◌∙◌, arith}
-use Rattle.list_laws.specs.Tabulate.{tabulate_at}
-use Rattle.lists.specs.Lists.{Ascends}
-use Rattle.sheets.specs.Sheet.{Configuration, Sheet}
-use Rattle.sheets.specs.WellFormed.{WellFormed}
-use Rattle.moves.specs.Orders.{configuration_before}
-use Rattle.work_layout.specs.SetLayout.{SetHeld}
-use Rattle.comparison.specs.Classes.{class_of}
-use Rattle.comparison_laws.specs.RoundLaws.{ClosedList, Sharing}
-use Rattle.kept_classes.specs.ClassesPresent.{Present, present_alike}
-use Rattle.kept_classes.specs.ClassPlaces.{TogetherAt, PresentAt, places_next, places_sharing}
-use Rattle.kept_classes.specs.MemberLines.{lines_of}
-use Rattle.kept_classes.specs.RoundLayout.{held_count_lem, held_at, classes_less}
+use Rattle.round_lines.specs.Tabulate.{tabulate_at}
+use Rattle.round_lines.specs.Lists.{Ascends}
+use Rattle.dominators.specs.Sheet.{Configuration, Sheet}
+use Rattle.dominators.specs.WellFormed.{WellFormed}
+use Rattle.dominators.specs.Orders.{configuration_before}
+use Rattle.former_classes.specs.SetLayout.{SetHeld}
+use Rattle.former_classes.specs.Classes.{class_of}
+use Rattle.dominators.specs.RoundLaws.{ClosedList, Sharing}
+use Rattle.dominators.specs.ClassesPresent.{Present, present_alike}
+use Rattle.dominators.specs.ClassPlaces.{TogetherAt, PresentAt, places_next, places_sharing}
+use Rattle.dominators.specs.MemberLines.{lines_of}
+use Rattle.dominators.specs.RoundLayout.{held_count_lem, held_at, classes_less}
 use Rattle.dominators.specs.KeptMoves.{no_move_lem}
 use Rattle.round_lines.specs.SetLinesFound.{MemberLined}
-use Rattle.class_splits.specs.ClassedPlaces.{Classed, classed_count}
-use Rattle.class_splits.specs.LineTests.{lines_held}
-use Rattle.work_layout.specs.WorkLayout.{births_at}
-use Rattle.work_layout.specs.ClassLayout.{class_in, classes_in, born_in, from_in_lem}
+use Rattle.round_steps.specs.ClassedPlaces.{Classed, classed_count}
+use Rattle.round_steps.specs.LineTests.{lines_held}
+use Rattle.former_classes.specs.WorkLayout.{births_at}
+use Rattle.former_classes.specs.ClassLayout.{class_in, classes_in, born_in, from_in_lem}
 
 -- what stands for no member
 abbrev pub nobody : Configuration

@@ -3,31 +3,31 @@ use Rattle.std.specs.Prelude.{◌≡◌, refl, ◌⊎◌, Bool, true, false, ℕ
 use Rattle.std.proofs.Common.{sym, ap, ap₂, ◌∙◌, subst, inl, inr, arith, add-one, eqb-true, ltb-true, ltb-false}
 use mathlib.Core.List.{List, Memᴰ}
 use Rattle.std.proofs.lemmas.Bool.{eqb-false}
-use Rattle.list_laws.specs.TestLaws.{Tested, tested, passes, fails}
-use Rattle.lists.specs.Lists.{Ascends}
-use Rattle.list_laws.specs.ListPlaces.{get_d_any}
-use Rattle.list_laws.specs.Frames.{SameOutside}
-use Rattle.list_laws.specs.Tabulate.{tabulate_same, tabulate_at}
-use Rattle.list_laws.specs.TabulateLaws.{ascends_at}
-use Rattle.sheets.specs.Sheet.{Configuration, Sheet}
-use Rattle.moves.specs.Orders.{configuration_before}
-use Rattle.move_laws.specs.OrderLaws.{configuration_order}
-use Rattle.number_lists.specs.NumberLists.{numbers_in}
-use Rattle.number_lists.specs.NumberLaws.{numbers_same}
-use Rattle.place_sets.specs.PlaceSets.{InSet}
-use Rattle.work_layout.specs.SetLayout.{member_at, first_move, move_total, SetHeld}
-use Rattle.refinement.specs.Refinement.{Round}
-use Rattle.comparison.specs.Classes.{place_of, class_of}
-use Rattle.comparison.specs.Rounds.{rounds}
-use Rattle.comparison.specs.SheetTransitions.{transitions}
-use Rattle.comparison_laws.specs.ClassLaws.{place_of_lt, place_of_at}
-use Rattle.comparison_laws.specs.RoundLaws.{Sharing}
-use Rattle.kept_classes.specs.MemberLines.{lines_of}
-use Rattle.refinement_laws.specs.EarlierRounds.{round_earlier}
-use Rattle.kept_classes.specs.ClassesPresent.{present_founders, present_alike, present_now}
-use Rattle.kept_classes.specs.SetClasses.{present_early, present-result}
-use Rattle.kept_classes.specs.ClassPlaces.{PresentAt, places_present}
-use Rattle.kept_classes.specs.RoundLayout.{SameSet, same_set_trans, same_set_low, same_set_high, held_same, held_member_same, held_first_same, held_total_same, held_count_lem, held_at, number_in}
+use Rattle.round_lines.specs.TestLaws.{Tested, tested, passes, fails}
+use Rattle.round_lines.specs.Lists.{Ascends}
+use Rattle.round_lines.specs.ListPlaces.{get_d_any}
+use Rattle.round_lines.specs.Frames.{SameOutside}
+use Rattle.round_lines.specs.Tabulate.{tabulate_same, tabulate_at}
+use Rattle.round_lines.specs.TabulateLaws.{ascends_at}
+use Rattle.dominators.specs.Sheet.{Configuration, Sheet}
+use Rattle.dominators.specs.Orders.{configuration_before}
+use Rattle.dominators.specs.OrderLaws.{configuration_order}
+use Rattle.round_lines.specs.NumberLists.{numbers_in}
+use Rattle.round_lines.specs.NumberLaws.{numbers_same}
+use Rattle.round_steps.specs.PlaceSets.{InSet}
+use Rattle.former_classes.specs.SetLayout.{member_at, first_move, move_total, SetHeld}
+use Rattle.former_classes.specs.Refinement.{Round}
+use Rattle.former_classes.specs.Classes.{place_of, class_of}
+use Rattle.former_classes.specs.Rounds.{rounds}
+use Rattle.former_classes.specs.SheetTransitions.{transitions}
+use Rattle.dominators.specs.ClassLaws.{place_of_lt, place_of_at}
+use Rattle.dominators.specs.RoundLaws.{Sharing}
+use Rattle.dominators.specs.MemberLines.{lines_of}
+use Rattle.dominators.specs.EarlierRounds.{round_earlier}
+use Rattle.dominators.specs.ClassesPresent.{present_founders, present_alike, present_now}
+use Rattle.dominators.specs.SetClasses.{present_early, present-result}
+use Rattle.dominators.specs.ClassPlaces.{PresentAt, places_present}
+use Rattle.dominators.specs.RoundLayout.{SameSet, same_set_trans, same_set_low, same_set_high, held_same, held_member_same, held_first_same, held_total_same, held_count_lem, held_at, number_in}
 use Rattle.dominators.specs.KeptMoves.{MoveKept, DominatorsKept, RoundHeld, MemberHeld, dominators_later}
 use Rattle.dominators.specs.SliceShapes.{kept_at, target_at, Shape, held_shape, lined_set, lined_class, lined_classes}
 use Rattle.round_lines.specs.MemberLinesFound.{line_total}
@@ -35,18 +35,18 @@ use Rattle.round_lines.specs.SettledMoves.{Settled, stood_settled, settled_stand
 use Rattle.round_lines.specs.WatchingMembers.{MoveWatched}
 use Rattle.round_lines.specs.SetLinesFound.{MemberLined, LinesKept, InList, SetLined}
 use Rattle.dominators.specs.ForgottenMoves.{Forgotten, forgotten_held}
-use Rattle.class_splits.specs.ClassedPlaces.{chosen_in, Classed, classed_count, classed_same}
+use Rattle.round_steps.specs.ClassedPlaces.{chosen_in, Classed, classed_count, classed_same}
 use Rattle.round_steps.specs.FirstRound.{store_in, StoresRise, Founding}
 use Rattle.class_rounds.specs.RoundAtHand.{nobody, TogetherHeld, PresentHeld, present_held_same, SetReady, present_listed, present_round, Stage}
-use Rattle.class_splits.specs.LineTests.{lines_held}
-use Rattle.class_splits.specs.ChosenPlaces.{chosen_class, chosen_classed}
+use Rattle.round_steps.specs.LineTests.{lines_held}
+use Rattle.round_steps.specs.ChosenPlaces.{chosen_class, chosen_classed}
 use Rattle.round_steps.specs.ChosenMembers.{Rechosen}
 use Rattle.round_steps.specs.AwakeMembers.{ListFits, NextListed}
 use Rattle.round_steps.specs.SplitRounds.{Splitting, splitting_all}
 use Rattle.former_classes.specs.FormerClasses.{former_in, former_own, former_from, Restored}
 use Rattle.class_rounds.specs.NextClasses.{next_together, next_present}
-use Rattle.work_layout.specs.WorkLayout.{work_end, spans_at, moves_at, dominators_at, line_totals_at, classes_at, births_at, chosen_at, lines_at, member_room, move_room}
-use Rattle.work_layout.specs.ClassLayout.{class_in, classes_in, born_in, from_in_lem}
+use Rattle.former_classes.specs.WorkLayout.{work_end, spans_at, moves_at, dominators_at, line_totals_at, classes_at, births_at, chosen_at, lines_at, member_room, move_room}
+use Rattle.former_classes.specs.ClassLayout.{class_in, classes_in, born_in, from_in_lem}
 
 -- some closed set, in its order, stands in the slice
 pub record Ready (w : List ℕ) (n m : ℕ) : Type 0 where

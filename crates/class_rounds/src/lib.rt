@@ -2,6 +2,8 @@
 // each other part gets a new number, with the class it came from and the round. Lines are worked out again, and compared, only for
 // members that look at one whose class is new. Chosen is a member whose lines stay, or the last one: members with more threads come
 // later and are told apart later, so the part that keeps its number is most often the larger one.
+#![tactic(auto)]
+
 ghost use Rattle.std.specs.Prelude.{◌*◌, ◌≤◌, length};
 ghost use Rattle.class_rounds.specs.RoundsDone.{Ready, Refined, LastRound, RoundReached};
 

@@ -1,9 +1,9 @@
 -- One place of each class chosen, while places are passed in some order: the last one passed stays.
 use Rattle.std.specs.Prelude.{◌≡◌, refl, ◌⊎◌, List, ℕ, ◌+◌, ◌≤◌, ◌<◌, length, set, eqb}
-use Rattle.std.proofs.Common.{sym, ap, ◌∙◌, subst, inl, inr, arith, get_or-set_same, get_or_set_other, eqb-true}
+use Rattle.std.proofs.Common.{sym, ap, ◌∙◌, subst, inl, inr, arith, get_or-set_same, get_or-set_other, eqb-true}
 use Rattle.std.proofs.lemmas.Bool.{eqb-false}
-use Rattle.list_laws.specs.TestLaws.{Tested, tested, passes, fails}
-use Rattle.list_laws.specs.Frames.{SameOutside, outside_same, outside_set, outside_again}
+use Rattle.work_layout.specs.TestLaws.{Tested, tested, passes, fails}
+use Rattle.work_layout.specs.Frames.{SameOutside, outside_same, outside_set, outside_again}
 use Rattle.class_splits.specs.ClassedPlaces.{chosen_in, Classed}
 use Rattle.work_layout.specs.WorkLayout.{work_end, classes_at, chosen_at, lines_at, member_room}
 use Rattle.work_layout.specs.ClassLayout.{class_in}
@@ -55,7 +55,7 @@ module _ {P : ℕ → Type 0} {NoEarlier : ℕ → ℕ → Type 0} {v w : List �
       mine b e = ap (chosen_in u) e ∙ get_or-set_same w (chosen_at + c) k 0 (omega (arith, K.only.long))
 
       other : (b : ℕ) → (b ≡ c → ⊥) → chosen_in u b ≡ chosen_in w b
-      other b e = get_or_set_other w (chosen_at + c) (chosen_at + b) k 0 (λ z. e (omega arith))
+      other b e = get_or-set_other w (chosen_at + c) (chosen_at + b) k 0 (λ z. e (omega arith))
 
       go : (i : ℕ) → Q i → Tested (eqb (class_in v i) c)
           → NoEarlier (chosen_in u (class_in v i)) i × Q (chosen_in u (class_in v i)) × (class_in v (chosen_in u (class_in v i)) ≡ class_in v i)

@@ -1,14 +1,14 @@
 -- Classes of places, each with a chosen member: how many there are, and what may change beside them.
 use Rattle.std.specs.Prelude.{◌≡◌, Bool, true, false, ℕ, suc, ◌+◌, ◌≤◌, ◌<◌, length, get_or, set, eqb}
-use Rattle.std.proofs.Common.{sym, ap, ◌∙◌, subst, ⊎_elim, arith, get_or-set_same, get_or_set_other, eqb-true}
+use Rattle.std.proofs.Common.{sym, ap, ◌∙◌, subst, ⊎_elim, arith, get_or-set_same, get_or-set_other, eqb-true}
 use mathlib.Core.List.Memᴰ
 use mathlib.Core.List.{List, ◌∷◌, Memᴰ}
 use Rattle.std.proofs.lemmas.Bool.{eqb-false}
-use Rattle.list_laws.specs.TestLaws.{Tested, tested, passes, fails}
-use Rattle.list_laws.specs.Tabulate.{tabulate, tabulate_length}
-use Rattle.list_laws.specs.TabulateLaws.{mem_tabulate, tabulate_mem, distinct_tabulate}
-use Rattle.lists.specs.Lists.{Distinct, one_more}
-use Rattle.list_laws.specs.Counting.{distinct_length}
+use Rattle.work_layout.specs.TestLaws.{Tested, tested, passes, fails}
+use Rattle.work_layout.specs.Tabulate.{tabulate, tabulate_length}
+use Rattle.work_layout.specs.TabulateLaws.{mem_tabulate, tabulate_mem, distinct_tabulate}
+use Rattle.round_lines.specs.Lists.{Distinct, one_more}
+use Rattle.round_lines.specs.Counting.{distinct_length}
 use Rattle.work_layout.specs.WorkLayout.{work_end, classes_at, chosen_at, lines_at, member_room}
 use Rattle.work_layout.specs.ClassLayout.{class_in}
 
@@ -105,10 +105,10 @@ module _ {w : List ℕ} {n count : ℕ} (C : Classed w n count) (few : n ≤ mem
       u = set w (classes_at + i) k
 
       first : (c : ℕ) → c < count → chosen_in u c ≡ chosen_in w c
-      first c m = get_or_set_other w (classes_at + i) (chosen_at + c) k 0 (λ e. omega arith)
+      first c m = get_or-set_other w (classes_at + i) (chosen_at + c) k 0 (λ e. omega arith)
 
       other : (j : ℕ) → (j ≡ i → ⊥) → class_in u j ≡ class_in w j
-      other j e = get_or_set_other w (classes_at + i) (classes_at + j) k 0 (λ z. e (omega arith))
+      other j e = get_or-set_other w (classes_at + i) (classes_at + j) k 0 (λ z. e (omega arith))
 
       mine : class_in u i ≡ k
       mine = get_or-set_same w (classes_at + i) k 0 (omega arith)

@@ -1,10 +1,10 @@
 -- Whether two members have the same lines, as numbers that stand in the slice.
 use Rattle.std.specs.Prelude.{◌≡◌, Bool, List, ℕ, ◌+◌, ◌-◌, ◌≤◌, ◌<◌, length, get_or}
 use Rattle.std.proofs.Common.{sym, ap, ap₂, ◌∙◌, arith}
-use Rattle.list_laws.specs.PlacesPassed.{holds_next}
-use Rattle.list_laws.specs.Tabulate.{tabulate, tabulate_same, tabulate_at}
-use Rattle.number_lists.specs.NumberLists.{numbers_in}
-use Rattle.number_lists.specs.NumberLaws.{numbers_tabulate, numbers_length}
+use Rattle.work_layout.specs.PlacesPassed.{holds_next}
+use Rattle.work_layout.specs.Tabulate.{tabulate, tabulate_same, tabulate_at}
+use Rattle.work_layout.specs.NumberLists.{numbers_in}
+use Rattle.work_layout.specs.NumberLaws.{numbers_tabulate, numbers_length}
 use Rattle.work_layout.specs.SetLayout.{first_move}
 use Rattle.round_lines.specs.MemberLinesFound.{line_total}
 use Rattle.class_splits.specs.ClassedPlaces.{Tells, chosen_in}

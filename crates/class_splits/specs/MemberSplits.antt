@@ -1,7 +1,7 @@
 -- One member in the next round: it keeps its class, joins a part of it that was born in this round, or begins a new part.
 use Rattle.std.specs.Prelude.{◌≡◌, refl, Bool, true, false, List, ℕ, ◌+◌, ◌*◌, ◌≤◌, ◌<◌, length, set}
 use Rattle.std.proofs.Common.{sym, ap, ap₂, ◌∙◌, arith}
-use Rattle.list_laws.specs.PlacesPassed.{FirstPlace}
+use Rattle.work_layout.specs.PlacesPassed.{FirstPlace}
 use Rattle.work_layout.specs.SetLayout.{first_move}
 use Rattle.round_lines.specs.MemberLinesFound.{line_total}
 use Rattle.class_splits.specs.ClassedPlaces.{Tells, chosen_in, Classed, classed_count, classed_spare}

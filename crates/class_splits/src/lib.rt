@@ -1,5 +1,7 @@
 // One member in the next round: it keeps its class, joins a part of it that was born in this round, or begins a new part, by its
 // lines and those of chosen members.
+#![tactic(auto)]
+
 ghost use Rattle.std.specs.Prelude.{◌≡◌, ℕ, ◌+◌, ◌*◌, ◌≤◌, ◌<◌, false, length, set};
 ghost use Rattle.class_splits.specs.ClassedPlaces.{Tells, chosen_in};
 ghost use Rattle.class_splits.specs.LineTests.{numbers_from, lines_held, LineFits, PartFits};

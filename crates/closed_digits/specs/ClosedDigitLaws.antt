@@ -1,14 +1,14 @@
 -- Laws of the digits of the closed sets: one rule after another taken into account.
 use Rattle.std.specs.Prelude.{◌≡◌, refl, Bool, true, false, cond, not, ◌&&◌, ℕ, ◌+◌, ◌-◌, ◌^◌, ◌≤◌, ◌<◌, eqb, ltb, get_or}
-use Rattle.std.proofs.Common.{sym, ap, ap₂, ◌∙◌, subst, ⊎_elim, arith, pow_mono, eqb-true, eq_eqb}
+use Rattle.std.proofs.Common.{sym, ap, ap₂, ◌∙◌, subst, ⊎_elim, arith, pow_mono, eqb-true, eq-eqb}
 use mathlib.Core.List.Memᴰ
 use mathlib.Core.List.{List, [], ◌∷◌, ◌++◌, Memᴰ}
-use Rattle.list_laws.specs.TestLaws.{true_false, and_left, and_right, and_intro, same_test}
-use Rattle.list_laws.specs.Tabulate.{tabulate_none, tabulate_next}
-use Rattle.stores.specs.Stores.{Rule, Obeys, Closed, includes, closure}
-use Rattle.store_laws.specs.StoreLaws.{includes_within, within_includes, closure_same, closed_by_closure}
-use Rattle.set_closure.specs.RuleTable.{rule_in, rules_in}
-use Rattle.sheets.specs.SheetLimits.{max_facts}
+use Rattle.set_digits.specs.TestLaws.{true_false, and_left, and_right, and_intro, same_test}
+use Rattle.set_digits.specs.Tabulate.{tabulate_none, tabulate_next}
+use Rattle.held_rules.specs.Stores.{Rule, Obeys, Closed, includes, closure}
+use Rattle.held_rules.specs.StoreLaws.{includes_within, within_includes, closure_same, closed_by_closure}
+use Rattle.held_rules.specs.RuleTable.{rule_in, rules_in}
+use Rattle.set_digits.specs.SheetLimits.{max_facts}
 use Rattle.set_digits.specs.SetDigits.{bit, words_of, mark, Marked}
 use Rattle.set_digits.specs.MarkedLaws.{marked_agree}
 use Rattle.closed_digits.specs.ClosedDigits.{closed_at, table_end, ClosedMarked}
@@ -37,7 +37,7 @@ test_obeys r s t =
 
 -- ---- all rules
 closed_test : {rs : List Rule} {s : ℕ} → Closed rs s → eqb (closure rs s) s ≡ true
-closed_test {rs} {s} c = eq_eqb (closure rs s) s (closure_same rs s c)
+closed_test {rs} {s} c = eq-eqb (closure rs s) s (closure_same rs s c)
 
 test_closed : (rs : List Rule) (s : ℕ) → eqb (closure rs s) s ≡ true → Closed rs s
 test_closed rs s h = closed_by_closure rs s (eqb-true (closure rs s) s h)

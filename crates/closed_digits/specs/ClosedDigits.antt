@@ -1,7 +1,7 @@
 -- A digit for each closed set, behind the rules at the beginning of a slice.
 use Rattle.std.specs.Prelude.{◌≡◌, ◌&&◌, List, ℕ, ◌+◌, ◌*◌, ◌^◌, ◌<◌, eqb, ltb}
-use Rattle.stores.specs.Stores.{Rule, closure}
-use Rattle.sheets.specs.SheetLimits.{max_facts}
+use Rattle.held_rules.specs.Stores.{Rule, closure}
+use Rattle.set_digits.specs.SheetLimits.{max_facts}
 use Rattle.held_rules.specs.HeldRules.{rules_end}
 use Rattle.set_digits.specs.SetDigits.{bit, words_of, mark}
 

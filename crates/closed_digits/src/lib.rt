@@ -1,8 +1,10 @@
 // The rules of a sheet at the beginning of a slice, and behind them a digit for each set that is closed under them.
+#![tactic(auto)]
+
 ghost use Rattle.std.specs.Prelude.{◌≤◌, length};
-ghost use Rattle.list_laws.specs.Frames.{SameOutside};
-ghost use Rattle.set_closure.specs.RuleTable.{rules_in};
-ghost use Rattle.sheets.specs.SheetLimits.{max_facts, max_rules};
+ghost use Rattle.set_digits.specs.Frames.{SameOutside};
+ghost use Rattle.held_rules.specs.RuleTable.{rules_in};
+ghost use Rattle.set_digits.specs.SheetLimits.{max_facts, max_rules};
 ghost use Rattle.held_rules.specs.HeldRules.{RulesHeld};
 ghost use Rattle.closed_digits.specs.ClosedDigits.{closed_at, table_end, ClosedMarked};
 

@@ -1,11 +1,13 @@
 // The table filled with the closure of every set.
+#![tactic(auto)]
+
 ghost use Rattle.std.specs.Prelude.{◌≡◌, ◌≤◌, ◌<◌, ◌^◌, length, drop};
-ghost use Rattle.list_laws.specs.Frames.{SameOutside};
-ghost use Rattle.stores.specs.Stores.{conclusions};
-ghost use Rattle.set_closure.specs.RuleTable.{rules_in};
+ghost use Rattle.closure_table.specs.Frames.{SameOutside};
+ghost use Rattle.closure_table.specs.Stores.{conclusions};
+ghost use Rattle.closure_table.specs.RuleTable.{rules_in};
 ghost use Rattle.closure_table.specs.ClosureTable.{Closures};
 ghost use Rattle.conclusion_passes.specs.GatheredConclusions.{ConclusionsGathered};
-ghost use Rattle.sheets.specs.SheetLimits.{max_facts, max_rules};
+ghost use Rattle.closure_table.specs.SheetLimits.{max_facts, max_rules};
 
 use closure_table::{fill_by_rules, sets_of};
 use conclusion_passes::{put_rules, spread_fact};

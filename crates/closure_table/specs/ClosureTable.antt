@@ -1,9 +1,9 @@
 -- A table of closures: the number at place s is the closure of the set s.
 use Rattle.std.specs.Prelude.{◌≡◌, List, ℕ, ◌%◌, ◌^◌, ◌≤◌, ◌<◌, get_or}
 use Rattle.std.proofs.Common.{◌∙◌, arith}
-use Rattle.stores.specs.FactSets.{Within}
-use Rattle.stores.specs.Stores.{Rule, Closed, conclusions, closure}
-use Rattle.store_laws.specs.StoreLaws.{closure_lt}
+use Rattle.set_closure.specs.FactSets.{Within}
+use Rattle.set_closure.specs.Stores.{Rule, Closed, conclusions, closure}
+use Rattle.set_closure.specs.StoreLaws.{closure_lt}
 
 -- the table has the closure of every set from k on, below the size
 pub record Closures (rs : List Rule) (k size : ℕ) (table : List ℕ) : Type 0 where

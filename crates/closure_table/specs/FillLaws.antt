@@ -1,13 +1,13 @@
 -- Laws of filling the table from the highest number down.
 use Rattle.std.specs.Prelude.{◌≡◌, refl, Bool, true, false, ℕ, ◌+◌, ◌^◌, ◌≤◌, ◌<◌, length, get_or, set, drop, eqb}
-use Rattle.std.proofs.Common.{sym, ap, ◌∙◌, subst, arith, length-set, get_or-set_same, get_or_set_other, drop-set-lt, eqb-true}
+use Rattle.std.proofs.Common.{sym, ap, ◌∙◌, subst, arith, length-set, get_or-set_same, get_or-set_other, drop-set-lt, eqb-true}
 use mathlib.Core.List.{List, Memᴰ}
 use Rattle.std.proofs.lemmas.Bool.{eqb-false}
-use Rattle.list_laws.specs.TabulateLaws.{mem_tabulate, tabulate_mem}
-use Rattle.stores.specs.FactSets.{Within}
-use Rattle.store_laws.specs.FactSetLaws.{within_trans, within_le}
-use Rattle.stores.specs.Stores.{Rule, Closed, Smallest, conclusions, pass, closure}
-use Rattle.store_laws.specs.StoreLaws.{smallest_unique, pass_above, pass_least, pass_same, closure_smallest, closure_closed, closure_includes, closure_least, closure_same, closure_lt}
+use Rattle.set_closure.specs.TabulateLaws.{mem_tabulate, tabulate_mem}
+use Rattle.set_closure.specs.FactSets.{Within}
+use Rattle.set_closure.specs.FactSetLaws.{within_trans, within_le}
+use Rattle.set_closure.specs.Stores.{Rule, Closed, Smallest, conclusions, pass, closure}
+use Rattle.set_closure.specs.StoreLaws.{smallest_unique, pass_above, pass_least, pass_same, closure_smallest, closure_closed, closure_includes, closure_least, closure_same, closure_lt}
 use Rattle.set_closure.specs.RuleTable.{rule_in, rules_in}
 use Rattle.set_closure.specs.PassLaws.{PassedTo}
 use Rattle.closure_table.specs.ClosureTable.{Closures, GrownBy}
@@ -70,7 +70,7 @@ module _ (rs : List Rule) (table : List ℕ) (s t size : ℕ) (l : s < size) (lo
       go false e =
           let other : t ≡ s → ⊥ = eqb-false t s e in
           let up : s < t = omega (arith, within_le g.above, other) in
-          get_or_set_other table s t s 0 other ∙ done.at t (omega arith) fits ∙ closure_grown rs g
+          get_or-set_other table s t s 0 other ∙ done.at t (omega arith) fits ∙ closure_grown rs g
 
   pub closures_down : Closures rs s size (put_closure table s t)
   closures_down = record { at = λ j h k. go j h k (eqb j s) refl }
@@ -84,8 +84,8 @@ module _ (rs : List Rule) (table : List ℕ) (s t size : ℕ) (l : s < size) (lo
           ∙ ap (closure rs) (sym same)
       go j h k false e =
           let other : j ≡ s → ⊥ = eqb-false j s e in
-          get_or_set_other (set table s s) s j (get_or (set table s s) t 0) 0 other
-          ∙ get_or_set_other table s j s 0 other
+          get_or-set_other (set table s s) s j (get_or (set table s s) t 0) 0 other
+          ∙ get_or-set_other table s j s 0 other
           ∙ done.at j (omega arith) k
 
 pub drop_put_closure : (table : List ℕ) (s t size : ℕ) → s < size → drop size (put_closure table s t) ≡ drop size table

@@ -1,2 +1,12 @@
+pub use Rattle.set_closure.specs.FactSetLaws
+pub use Rattle.set_closure.specs.FactSets
+pub use Rattle.set_closure.specs.Frames
+pub use Rattle.set_closure.specs.OutsideLaws
+pub use Rattle.set_closure.specs.RuleTable
+pub use Rattle.set_closure.specs.RuleTableLaws
+pub use Rattle.set_closure.specs.SheetLimits
+pub use Rattle.set_closure.specs.StoreLaws
+pub use Rattle.set_closure.specs.Stores
+pub use Rattle.set_closure.specs.TabulateLaws
 pub mod ClosureTable
 pub mod FillLaws

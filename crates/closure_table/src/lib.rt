@@ -1,9 +1,11 @@
 // The closure of every set of facts, in a table.
+#![tactic(auto)]
+
 ghost use Rattle.std.specs.Prelude.{◌≡◌, ◌≤◌, ◌<◌, ◌^◌, length, drop};
-ghost use Rattle.stores.specs.Stores.{conclusions};
+ghost use Rattle.set_closure.specs.Stores.{conclusions};
 ghost use Rattle.set_closure.specs.RuleTable.{rules_in};
 ghost use Rattle.closure_table.specs.ClosureTable.{Closures, GrownBy, ReadClosure};
-ghost use Rattle.sheets.specs.SheetLimits.{max_facts, max_rules};
+ghost use Rattle.set_closure.specs.SheetLimits.{max_facts, max_rules};
 
 use set_closure::fire;
 

@@ -2,16 +2,16 @@
 use Rattle.std.specs.Prelude.{◌≡◌, ◌⊎◌, ℕ, ◌+◌, ◌/◌, ◌%◌, ◌≤◌}
 use Rattle.std.proofs.Common.{sym, ap, ◌∙◌, subst, arith}
 use mathlib.Core.List.{List, map, Memᴰ}
-use Rattle.lists.specs.Lists.{Ascends}
-use Rattle.list_laws.specs.Frames.{SameOutside, outside_wider}
-use Rattle.list_laws.specs.AscendingLaws.{number_order}
+use Rattle.number_lists.specs.Lists.{Ascends}
+use Rattle.number_lists.specs.Frames.{SameOutside, outside_wider}
+use Rattle.number_lists.specs.AscendingLaws.{number_order}
 use Rattle.number_lists.specs.NumberLaws.{numbers_outside}
 use Rattle.member_table.specs.MemberTable.{member_in, members_in, id_in}
 use Rattle.member_table.specs.TableInPart.{part_outside, kept_outside}
 use Rattle.collected_moves.specs.declared.Caps.{Caps}
 use Rattle.collected_moves.specs.declared.Running.{Running}
 use Rattle.collected_moves.specs.CollectedMoves.{member_part, move_in_lem, move_numbers, moves_of, Collecting, Grown}
-use Rattle.work_layout.specs.WorkLayout.{work_end, table_length, moves_at, members_at}
+use Rattle.member_table.specs.WorkLayout.{work_end, table_length, moves_at, members_at}
 
 module _ {a b : ℕ} {v w : List ℕ} (same : SameOutside a b v w) (apart : (members_at + table_length ≤ a) ⊎ (b ≤ members_at)) where
   -- the members

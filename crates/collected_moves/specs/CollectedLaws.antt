@@ -4,19 +4,19 @@ use Rattle.std.specs.Prelude.{◌≡◌, refl, ℕ, ◌+◌, ◌*◌, ◌/◌, �
 use Rattle.std.proofs.Common.{sym, ap, ◌∙◌, subst, arith}
 use mathlib.Core.List.Memᴰ
 use mathlib.Core.List.{List, [], map, Memᴰ}
-use Rattle.list_laws.specs.Members.{mem_map, map_mem}
-use Rattle.list_laws.specs.Tabulate.{tabulate_same, tabulate_at}
-use Rattle.list_laws.specs.Frames.{outside_same, outside_again}
-use Rattle.sheets.specs.Sheet.{Configuration}
-use Rattle.moves.specs.Orders.{Move}
+use Rattle.number_lists.specs.Members.{mem_map, map_mem}
+use Rattle.number_lists.specs.Tabulate.{tabulate_same, tabulate_at}
+use Rattle.number_lists.specs.Frames.{outside_same, outside_again}
+use Rattle.member_table.specs.Sheet.{Configuration}
+use Rattle.member_table.specs.Orders.{Move}
 use Rattle.number_lists.specs.NumberLaws.{numbers_none, numbers_none_ascend}
 use Rattle.member_table.specs.MemberTable.{member_in, members_in, Kept}
 use Rattle.member_table.specs.MemberLaws.{member_id}
 use Rattle.collected_moves.specs.declared.Caps.{Caps}
 use Rattle.collected_moves.specs.declared.Running.{Running}
 use Rattle.collected_moves.specs.CollectedMoves.{member_part, move_in_lem, moves_of, Collecting, Grown}
-use Rattle.work_layout.specs.WorkLayout.{work_end, moves_at, member_room, move_room}
-use Rattle.sheets.specs.SheetLimits.{max_threads}
+use Rattle.member_table.specs.WorkLayout.{work_end, moves_at, member_room, move_room}
+use Rattle.member_table.specs.SheetLimits.{max_threads}
 
 -- ---- a move by its number
 -- a move from its two parts

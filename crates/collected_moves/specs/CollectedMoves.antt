@@ -1,19 +1,19 @@
 -- Members and moves in the work slice while the moves of one member are collected.
 use Rattle.std.specs.Prelude.{◌≡◌, ◌⊎◌, ℕ, ◌+◌, ◌/◌, ◌%◌, ◌≤◌, ◌<◌, length}
 use mathlib.Core.List.{List, map, Memᴰ}
-use Rattle.lists.specs.Lists.{Ascends}
-use Rattle.list_laws.specs.Frames.{SameOutside}
-use Rattle.sheets.specs.Sheet.{Configuration}
-use Rattle.moves.specs.Orders.{Move}
-use Rattle.list_laws.specs.AscendingLaws.{number_order}
+use Rattle.number_lists.specs.Lists.{Ascends}
+use Rattle.number_lists.specs.Frames.{SameOutside}
+use Rattle.member_table.specs.Sheet.{Configuration}
+use Rattle.member_table.specs.Orders.{Move}
+use Rattle.number_lists.specs.AscendingLaws.{number_order}
 use Rattle.number_lists.specs.NumberLists.{numbers_in}
 use Rattle.member_table.specs.MemberTable.{member_in, members_in, id_in, part_at, Kept}
 use Rattle.collected_moves.specs.declared.Caps.{Caps}
 use Rattle.collected_moves.specs.declared.Running.{Running}
 use Rattle.collected_moves.specs.declared.Noted.{Noted}
 use Rattle.collected_moves.specs.declared.Noted.TheVariants.{On, Over}
-use Rattle.work_layout.specs.WorkLayout.{work_end, table_length, moves_at, members_at, member_room, move_room}
-use Rattle.sheets.specs.SheetLimits.{max_threads}
+use Rattle.member_table.specs.WorkLayout.{work_end, table_length, moves_at, members_at, member_room, move_room}
+use Rattle.member_table.specs.SheetLimits.{max_threads}
 
 -- the part of the slice that holds the members
 abbrev pub member_part : List ℕ → List ℕ

@@ -1,14 +1,14 @@
 -- Why noting is right: entering a member leaves the numbers of the moves alone, putting a number leaves the members alone, and a
 -- move that is there already has the same number.
 use Rattle.std.specs.Prelude.{◌≡◌, refl, ◌⊎◌, Bool, cond, ℕ, ◌+◌, ◌*◌, ◌-◌, ◌%◌, ◌≤◌, ◌<◌, min}
-use Rattle.std.proofs.Common.{sym, ap, ap₂, ◌∙◌, subst, inl, inr, ⊎_elim, arith, eq_eqb, ne_eqb}
+use Rattle.std.proofs.Common.{sym, ap, ap₂, ◌∙◌, subst, inl, inr, ⊎_elim, arith, eq-eqb, ne_eqb}
 use mathlib.Core.List.{List, map, Memᴰ}
-use Rattle.lists.specs.Lists.{Ascends}
-use Rattle.list_laws.specs.Members.{mem_map, map_mem}
-use Rattle.list_laws.specs.Frames.{SameOutside, outside_wider, outside_then, outside_part}
-use Rattle.sheets.specs.Sheet.{Configuration}
-use Rattle.moves.specs.Orders.{Move}
-use Rattle.list_laws.specs.AscendingLaws.{number_order}
+use Rattle.number_lists.specs.Lists.{Ascends}
+use Rattle.number_lists.specs.Members.{mem_map, map_mem}
+use Rattle.number_lists.specs.Frames.{SameOutside, outside_wider, outside_then, outside_part}
+use Rattle.member_table.specs.Sheet.{Configuration}
+use Rattle.member_table.specs.Orders.{Move}
+use Rattle.number_lists.specs.AscendingLaws.{number_order}
 use Rattle.number_lists.specs.NumberLaws.{numbers_outside}
 use Rattle.number_lists.specs.Entered as put
 use Rattle.number_lists.specs.EnteredLaws as put-laws
@@ -22,7 +22,7 @@ use Rattle.collected_moves.specs.declared.Running.{Running}
 use Rattle.collected_moves.specs.CollectedMoves.{member_part, members_of, move_in_lem, move_numbers, moves_of, Collecting, Grown, NotedOn, NoRoom, EnteredOn}
 use Rattle.collected_moves.specs.LowestUnexplored.{lowest_of}
 use Rattle.collected_moves.specs.CollectedLaws.{move_of, number_label, number_id, move_same, moves_carried, numbers_apart, grown_trans}
-use Rattle.work_layout.specs.WorkLayout.{work_end, table_length, moves_at, members_at}
+use Rattle.member_table.specs.WorkLayout.{work_end, table_length, moves_at, members_at}
 
 -- the numbers of members, moves and the lowest place
 abbrev pub running_of : ℕ → ℕ → ℕ → Running
@@ -49,7 +49,7 @@ module _ (v w : List ℕ) (first : ℕ) (s : Running) (l : Caps) (p : Configurat
       go : ((n ≡ s.members) × (member_part w ≡ member_part v)) ⊎ ((n ≡ s.members + 1) × (id ≡ s.members))
           → (j < s.low) × (id_in (member_part w) j ≡ id_in (member_part v) j)
       go (inl f) =
-          let z : low ≡ s.low = q ∙ ap (λ (b : Bool). cond b s.low (min s.low at)) (eq_eqb n s.members f.0) in
+          let z : low ≡ s.low = q ∙ ap (λ (b : Bool). cond b s.low (min s.low at)) (eq-eqb n s.members f.0) in
           (omega arith, ap (λ (x : List ℕ). id_in x j) f.1)
       go (inr f) =
           let a : n ≡ s.members + 1 = f.0 in

@@ -1,3 +1,13 @@
+pub use Rattle.number_lists.specs.ListPlaces
+pub use Rattle.member_table.specs.MemberLaws
+pub use Rattle.member_table.specs.MemberTable
+pub use Rattle.number_lists.specs.Members
+pub use Rattle.number_lists.specs.NumberLaws
+pub use Rattle.number_lists.specs.PlacesPassed
+pub use Rattle.member_table.specs.TableInPart
+pub use Rattle.number_lists.specs.Tabulate
+pub use Rattle.number_lists.specs.TabulateLaws
+pub use Rattle.member_table.specs.WorkLayout
 pub mod CollectedMoves
 pub mod CollectedLaws
 pub mod CollectedFrames

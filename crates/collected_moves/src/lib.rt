@@ -1,4 +1,5 @@
 // Members and moves in the work slice while the set is worked out: types, definitions and laws. No functions.
+#![tactic(auto)]
 
 // How many members, moves of all members together, and threads of a member there may be.
 #[derive(Drop)]

@@ -1,6 +1,6 @@
 -- What the comparing call returns, and what it leaves in both slices.
 use Rattle.std.specs.Prelude.{List, ℕ}
-use Rattle.comparison.specs.Report.{Compares, report_bytes}
+use Rattle.work_layout.specs.Report.{Compares, report_bytes}
 use Rattle.answers.specs.declared.Answer.{Answer}
 use Rattle.answers.specs.Returned.{returned}
 use Rattle.call_frame.specs.Answered.{Answered}

@@ -1,9 +1,9 @@
 -- The comparing call is what is made of the set of two starts, within the frame of every call.
 use Rattle.std.specs.Prelude.{◌≡◌, List, ℕ, length}
 use Rattle.std.proofs.Common.{subst}
-use Rattle.comparison.specs.CallLimits.{Limits}
-use Rattle.comparison.specs.Report.{report_on, report_bytes}
-use Rattle.comparison.specs.Call.{compare_with}
+use Rattle.work_layout.specs.CallLimits.{Limits}
+use Rattle.work_layout.specs.Report.{report_on, report_bytes}
+use Rattle.answers.specs.Call.{compare_with}
 use Rattle.answers.specs.declared.Answer.{Answer}
 use Rattle.answers.specs.Returned.{returned}
 use Rattle.pair_calls.specs.PairAnswered.{pair_answered}

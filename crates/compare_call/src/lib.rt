@@ -1,9 +1,11 @@
 // The comparing call: sheet bytes, two start numbers, an answer slice and a work slice in; the report or one refusal out. Document 01's
 // call and the desk's are the same within other limits.
+#![tactic(auto)]
+
 ghost use Rattle.std.specs.Prelude.{length};
-ghost use Rattle.comparison.specs.Call.{compare_with, compare, compare_desk};
-ghost use Rattle.seed_members.specs.Seeds.{CapsFit};
-ghost use Rattle.found_set.specs.FoundSet.{limits_of};
+ghost use Rattle.answers.specs.Call.{compare_with, compare, compare_desk};
+ghost use Rattle.call_frame.specs.Seeds.{CapsFit};
+ghost use Rattle.call_frame.specs.FoundSet.{limits_of};
 ghost use Rattle.compare_call.specs.Compared.{Compared};
 
 use answers::Answer;

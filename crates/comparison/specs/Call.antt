@@ -1,7 +1,7 @@
 -- The comparing call, from sheet bytes, two start numbers and the lengths of both slices to the report or the refusal, in
 -- document 01's order: the sheet's refusals, 14, then 23, 21, 22.
 use Rattle.std.specs.Prelude.{List, [], ◌∷◌, ℕ}
-use Rattle.sheets.specs.Sheet.{Configuration, Sheet, start}
+use Rattle.moves.specs.Sheet.{Configuration, Sheet, start}
 use Rattle.sheet_reading.specs.Reading.{Reading, read_choice}
 use Rattle.comparison.specs.CallLimits.{Limits, limits, desk_limits}
 use Rattle.comparison.specs.Report.{Report, Compares, report_on, report_bytes}

@@ -1,7 +1,7 @@
 -- The numbers of document 01, "The report" and "Refused by the state", and of document 02, card 3, each named once. A caller's limits
 -- are given.
 use Rattle.std.specs.Prelude.{◌≡◌, refl, ℕ, ◌+◌, ◌-◌, ◌*◌, ◌≤◌}
-use Rattle.sheets.specs.SheetLimits.{max_threads}
+use Rattle.sheet_reading.specs.SheetLimits.{max_threads}
 
 -- How many members, threads of a member, and moves of all members together a comparison may have.
 pub record Limits : Type 0 where

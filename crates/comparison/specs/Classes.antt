@@ -1,8 +1,8 @@
 -- Document 01, "The report": classes as numbers, one for each member in the order of the set, numbered from 0 by first
 -- member.
 use Rattle.std.specs.Prelude.{Bool, cond, not, ◌&&◌, List, [], ◌∷◌, ◌++◌, ℕ, suc, length, get_or, eqb, ltb}
-use Rattle.sheets.specs.Sheet.{Configuration}
-use Rattle.lists.specs.Lists.{arrange}
+use Rattle.moves.specs.Sheet.{Configuration}
+use Rattle.moves.specs.Lists.{arrange}
 use Rattle.moves.specs.Orders.{configuration_before}
 
 module _ {A : Type 0} where

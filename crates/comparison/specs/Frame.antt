@@ -1,8 +1,8 @@
 -- What every call has that works out a set: from reading to the set, and the room for what it writes. A call adds what it makes of the
 -- set, and its bytes. Document 01's order of refusals: those of the sheet and the choice, 23, 21, 22.
 use Rattle.std.specs.Prelude.{true, false, cond, List, ℕ, length, ltb}
-use Rattle.sheets.specs.Refusals.{large_set, short_answer, short_work}
-use Rattle.sheets.specs.Sheet.{Configuration, Sheet}
+use Rattle.moves.specs.Refusals.{large_set, short_answer, short_work}
+use Rattle.moves.specs.Sheet.{Configuration, Sheet}
 use Rattle.sheet_reading.specs.Reading.{Reading, got, refused}
 use Rattle.comparison.specs.CallLimits.{Limits, work_length}
 use Rattle.comparison.specs.Outcome.{Outcome, reported, refusal}

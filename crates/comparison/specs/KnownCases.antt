@@ -2,9 +2,9 @@
 -- from no theorem, a row each; one statement proves them all. A step's places are those of the set in its order, as document 01
 -- prints them for [2] and [4].
 use Rattle.std.specs.Prelude.{Bool, not, List, [], ◌∷◌, ◌++◌, map, ℕ, length, take, drop, replicate, T, eqb}
-use Rattle.lists.specs.Lists.{select, all, concat_map, same_numbers}
-use Rattle.stores.specs.Stores.{closure, passes, pass, conclusions}
-use Rattle.sheets.specs.Sheet.{Configuration, Sheet, open_within}
+use Rattle.moves.specs.Lists.{select, all, concat_map, same_numbers}
+use Rattle.moves.specs.Stores.{closure, passes, pass, conclusions}
+use Rattle.moves.specs.Sheet.{Configuration, Sheet, open_within}
 use Rattle.sheet_reading.specs.Reading.{records_from, count_at, set_at, name_bytes, name_at, names_from, facts_at, rule_at, rules_at, kind_at, first_at, second_at, node_at, nodes_at, thread_at, threads_from, start_at, starts_at, read_sheet, read_choice}
 use Rattle.moves.specs.Moves.{labels, steps_within, moves}
 use Rattle.comparison.specs.CallLimits.{limits, desk_limits, work_length, no_reply, report_room}

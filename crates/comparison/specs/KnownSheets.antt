@@ -1,8 +1,8 @@
 -- Document 01, "Known sheets": the bytes of the sheets, and what reading K and L gives; further small sheets.
 use Rattle.std.specs.Prelude.{◌≡◌, refl, List, [], ◌∷◌, ◌++◌, ℕ, zero, suc, ◌/◌, ◌%◌, length}
-use Rattle.lists.specs.Lists.{concat_map}
-use Rattle.stores.specs.Stores.{Rule, closure, passes, pass, conclusions}
-use Rattle.sheets.specs.Sheet.{stop, tell, ask, both, either, Sheet, open_within}
+use Rattle.moves.specs.Lists.{concat_map}
+use Rattle.moves.specs.Stores.{Rule, closure, passes, pass, conclusions}
+use Rattle.moves.specs.Sheet.{stop, tell, ask, both, either, Sheet, open_within}
 use Rattle.sheet_reading.specs.Reading.{got, records_from, count_at, set_at, name_bytes, name_at, names_from, facts_at, rule_at, rules_at, kind_at, first_at, second_at, node_at, nodes_at, thread_at, threads_from, start_at, starts_at, read_sheet}
 
 -- ---- records as bytes

@@ -1,3 +1,16 @@
+pub use Rattle.moves.specs.FactSets
+pub use Rattle.moves.specs.Lists
+pub use Rattle.moves.specs.Moves
+pub use Rattle.sheet_reading.specs.Reading
+pub use Rattle.refinement.specs.Refinement
+pub use Rattle.moves.specs.Refusals
+pub use Rattle.moves.specs.Sheet
+pub use Rattle.sheet_reading.specs.SheetBytes
+pub use Rattle.sheet_reading.specs.SheetLimits
+pub use Rattle.sheet_reading.specs.SheetRead
+pub use Rattle.sheet_reading.specs.Sound
+pub use Rattle.moves.specs.Stores
+pub use Rattle.moves.specs.WellFormed
 pub mod CallLimits
 pub mod Outcome
 pub mod Set

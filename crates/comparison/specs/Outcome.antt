@@ -1,6 +1,6 @@
 -- What a call gives, and what it leaves in the slices that were lent.
 use Rattle.std.specs.Prelude.{Bool, cond, ◌||◌, List, ◌++◌, ℕ, length, drop, replicate, eqb}
-use Rattle.sheets.specs.Refusals.{large_set, short_answer}
+use Rattle.moves.specs.Refusals.{large_set, short_answer}
 use Rattle.comparison.specs.CallLimits.{work_length}
 
 -- what a call gives, or a refusal's number and place

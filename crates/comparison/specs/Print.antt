@@ -1,10 +1,10 @@
 -- Document 01, "Known sheets", the program: what is printed of an outcome. Fields are parted by one space, and every line ends
 -- in a line feed.
 use Rattle.std.specs.Prelude.{List, [], ◌∷◌, ◌++◌, ℕ, length}
-use Rattle.lists.specs.Lists.{concat_map}
+use Rattle.moves.specs.Lists.{concat_map}
 use Rattle.printed_lines.specs.Decimal.{decimal}
 use Rattle.printed_lines.specs.Lines.{space, line_feed, field, line, refused_word}
-use Rattle.sheets.specs.Sheet.{Configuration}
+use Rattle.moves.specs.Sheet.{Configuration}
 use Rattle.comparison.specs.Classes.{place_of, class_of}
 use Rattle.comparison.specs.Trail.{Side, left, right, Reply, none, move, TrailStep}
 use Rattle.comparison.specs.Report.{Verdict, SAME, DIFF, Compares}

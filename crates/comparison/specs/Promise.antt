@@ -3,10 +3,10 @@
 -- `CallTheorem` prove it.
 use Rattle.std.specs.Prelude.{◌≡◌, ◌↔◌, ◌⊎◌, true, ℕ, suc, ◌≤◌, ◌<◌, length, get_or}
 use mathlib.Core.List.{List, [], ◌∷◌, Memᴰ}
-use Rattle.lists.specs.Lists.{Ascends, MoreThan}
-use Rattle.sheets.specs.Refusals.{large_set, short_answer, short_work}
-use Rattle.sheets.specs.Sheet.{Configuration, Sheet, start}
-use Rattle.sheets.specs.SheetBytes.{ChoiceIs, ChoiceRefused}
+use Rattle.moves.specs.Lists.{Ascends, MoreThan}
+use Rattle.moves.specs.Refusals.{large_set, short_answer, short_work}
+use Rattle.moves.specs.Sheet.{Configuration, Sheet, start}
+use Rattle.sheet_reading.specs.SheetBytes.{ChoiceIs, ChoiceRefused}
 use Rattle.moves.specs.Orders.{Move, configuration_before, move_before}
 use Rattle.moves.specs.Moves.{moves, Moves}
 use Rattle.comparison.specs.CallLimits.{Limits, work_length}

@@ -1,8 +1,8 @@
 -- Document 01, "The report": verdict, round, places, and the answer bytes.
 use Rattle.std.specs.Prelude.{cond, List, [], ◌∷◌, ◌++◌, ℕ, ◌/◌, ◌%◌, length, get_or, eqb}
-use Rattle.lists.specs.Lists.{concat_map}
-use Rattle.sheets.specs.Sheet.{Configuration, Sheet}
-use Rattle.sheets.specs.SheetBytes.{word_bytes}
+use Rattle.moves.specs.Lists.{concat_map}
+use Rattle.moves.specs.Sheet.{Configuration, Sheet}
+use Rattle.sheet_reading.specs.SheetBytes.{word_bytes}
 use Rattle.comparison.specs.Outcome.{Outcome}
 use Rattle.comparison.specs.CallLimits.{no_reply}
 use Rattle.comparison.specs.Classes.{place_of, class_of}

@@ -1,8 +1,8 @@
 -- Document 01, "Rounds": the classes after each round, over the members of a set that is given as a list.
 use Rattle.std.specs.Prelude.{Bool, true, false, not, ◌&&◌, ◌||◌, List, [], ◌∷◌, ℕ, zero, suc, ◌-◌, length, eqb}
-use Rattle.lists.specs.Lists.{any, all, same_numbers}
-use Rattle.stores.specs.Stores.{strictly_below}
-use Rattle.sheets.specs.Sheet.{Configuration, Sheet}
+use Rattle.moves.specs.Lists.{any, all, same_numbers}
+use Rattle.moves.specs.Stores.{strictly_below}
+use Rattle.moves.specs.Sheet.{Configuration, Sheet}
 use Rattle.moves.specs.Orders.{Move}
 use Rattle.moves.specs.Moves.{moves, add}
 use Rattle.comparison.specs.Classes.{position, numbered, share}

@@ -1,9 +1,9 @@
 -- Document 01, "Configurations and moves": the set of a comparison as a list in its order, worked out step by step, with the
 -- limits of "Refused by the state". `Member` of crate refinement is the set itself, which may be infinite.
 use Rattle.std.specs.Prelude.{Bool, true, false, not, ◌&&◌, ◌||◌, List, [], ◌∷◌, ◌++◌, map, ℕ, zero, suc, ◌+◌, length, eqb, leb, ltb}
-use Rattle.lists.specs.Lists.{select, any, concat_map, arrange}
-use Rattle.stores.specs.Stores.{strictly_below}
-use Rattle.sheets.specs.Sheet.{Configuration, Sheet}
+use Rattle.moves.specs.Lists.{select, any, concat_map, arrange}
+use Rattle.moves.specs.Stores.{strictly_below}
+use Rattle.moves.specs.Sheet.{Configuration, Sheet}
 use Rattle.moves.specs.Orders.{Move, configuration_before}
 use Rattle.moves.specs.Moves.{moves, add}
 use Rattle.comparison.specs.CallLimits.{Limits}

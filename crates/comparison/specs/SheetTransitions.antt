@@ -1,10 +1,10 @@
 -- The configurations and moves of a sheet as labelled transitions: what the watcher's levels and the saturated barbed
 -- bisimulations of document 01 ("Rounds", the plain counterpart) range over.
 use Rattle.std.specs.Prelude.{◌≡◌, ℕ}
-use Rattle.stores.specs.FactSets.{Within}
-use Rattle.stores.specs.Stores.{Constraint, least_store}
-use Rattle.sheets.specs.Sheet.{Configuration, Sheet}
-use Rattle.sheets.specs.WellFormed.{OfSheet}
+use Rattle.moves.specs.FactSets.{Within}
+use Rattle.moves.specs.Stores.{Constraint, least_store}
+use Rattle.moves.specs.Sheet.{Configuration, Sheet}
+use Rattle.sheet_reading.specs.WellFormed.{OfSheet}
 use Rattle.moves.specs.Moves.{Moves, add}
 use Rattle.refinement.specs.Refinement.{Transitions}
 

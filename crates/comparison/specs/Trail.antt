@@ -1,7 +1,7 @@
 -- Document 01, "The report": the trail.
 use Rattle.std.specs.Prelude.{true, false, cond, not, ◌&&◌, ◌||◌, List, [], ◌∷◌, ℕ, zero, suc, ◌-◌, length, get_or, eqb, ltb}
-use Rattle.lists.specs.Lists.{select}
-use Rattle.sheets.specs.Sheet.{Configuration, Sheet}
+use Rattle.moves.specs.Lists.{select}
+use Rattle.moves.specs.Sheet.{Configuration, Sheet}
 use Rattle.moves.specs.Orders.{Move}
 use Rattle.moves.specs.Moves.{moves}
 use Rattle.comparison.specs.Rounds.{redundant, answers, apart_in}

@@ -2,7 +2,7 @@
 -- and the new pairs have one round.
 use Rattle.std.specs.Prelude.{◌≡◌, true, ℕ}
 use Rattle.std.proofs.Common.{subst, arith}
-use Rattle.sheets.specs.Sheet.{Configuration, Sheet}
+use Rattle.moves.specs.Sheet.{Configuration, Sheet}
 use Rattle.moves.specs.Orders.{Move, configuration_before, move_before}
 use Rattle.moves.specs.Moves.{moves, Moves}
 use Rattle.comparison.specs.Promise.{Telling, Replied}

@@ -1,8 +1,8 @@
 -- What the transitions of a sheet are made of: the reductions that levels and bisimulations answer are those of the sheet, and the
 -- least of its labels is the least store.
 use Rattle.std.specs.Prelude.{◌≡◌, refl, ℕ}
-use Rattle.stores.specs.Stores.{least_store}
-use Rattle.sheets.specs.Sheet.{Configuration, Sheet}
+use Rattle.moves.specs.Stores.{least_store}
+use Rattle.moves.specs.Sheet.{Configuration, Sheet}
 use Rattle.moves.specs.Moves.{Reduces}
 use Rattle.comparison.specs.SheetTransitions.{transitions}
 

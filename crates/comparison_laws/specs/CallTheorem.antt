@@ -2,13 +2,13 @@
 use Rattle.std.specs.Prelude.{◌≡◌, refl, ◌↔◌, List, [], ℕ, ◌≤◌, length}
 use Rattle.std.proofs.Common.{sym, subst, arith}
 use mathlib.Core.List.Memᴰ
-use Rattle.list_laws.specs.ListPlaces.{get_d_in}
-use Rattle.sheets.specs.Sheet.{Configuration, Sheet, start}
-use Rattle.sheets.specs.WellFormed.{WellFormed, Admissible}
-use Rattle.sheets.specs.SheetBytes.{ChoiceIs, ChoiceRefused}
-use Rattle.sheet_reading.specs.Reading.{read_choice}
-use Rattle.sheet_reading.specs.SheetRead.{choice_reads}
-use Rattle.sheet_laws.specs.ReadingLaws.{written_admissible}
+use Rattle.move_laws.specs.ListPlaces.{get_d_in}
+use Rattle.move_laws.specs.Sheet.{Configuration, Sheet, start}
+use Rattle.move_laws.specs.WellFormed.{WellFormed, Admissible}
+use Rattle.comparison.specs.SheetBytes.{ChoiceIs, ChoiceRefused}
+use Rattle.comparison.specs.Reading.{read_choice}
+use Rattle.comparison.specs.SheetRead.{choice_reads}
+use Rattle.move_laws.specs.ReadingLaws.{written_admissible}
 use Rattle.comparison.specs.CallLimits.{Limits, report_room}
 use Rattle.comparison.specs.Set.{explored}
 use Rattle.comparison.specs.Report.{Report, report_on, report_bytes, report_length, Compares}

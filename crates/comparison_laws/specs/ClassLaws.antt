@@ -8,11 +8,11 @@ use Rattle.std.proofs.Math.Bool.{true, false}
 use mathlib.Core.List.{List, [], ◌∷◌, ◌++◌, map, append_assoc, Memᴰ}
 use Rattle.std.proofs.Math.ListN.{length, get_or, length-append}
 use Rattle.std.proofs.Math.Dec.{eqb}
-use borrow.Author.Tests.{eqb-true, eqb-false, eq_eqb, not-true}
-use Rattle.list_laws.specs.TestLaws.{true_false, and_left, and_right, and_intro, not_passes, Tested, tested, passes, fails}
-use Rattle.list_laws.specs.ListPlaces.{get_d_image}
-use Rattle.sheets.specs.Sheet.{Configuration}
-use Rattle.moves.specs.Orders.{configuration_before}
+use borrow.Author.Tests.{eqb-true, eqb-false, eq-eqb, not-true}
+use Rattle.move_laws.specs.TestLaws.{true_false, and_left, and_right, and_intro, not_passes, Tested, tested, passes, fails}
+use Rattle.move_laws.specs.ListPlaces.{get_d_image}
+use Rattle.move_laws.specs.Sheet.{Configuration}
+use Rattle.move_laws.specs.Orders.{configuration_before}
 use Rattle.move_laws.specs.OrderLaws.{configuration_order}
 use Rattle.comparison.specs.Classes.{position, numbered_from, numbered, same_configuration, place_of, class_of, share}
 use Rattle.comparison.specs.Promise.{NumberedByFirst}
@@ -310,7 +310,7 @@ module _ (set : List Configuration) (test : Configuration → Configuration → 
   pub test_share : (p q : Configuration) → Memᴰ p set → Memᴰ q set → test p q ≡ true → share set (numbered test set) p q ≡ true
   unfolding number
   test_share p q mp mq h =
-      eq_eqb _ _
+      eq-eqb _ _
       (number_is p mp
       ∙ position_same (λ f. test f p) (λ f. test f q) firsts.later
       (λ f m. same (firsts.from f m) (tested (test f p)) (tested (test f q)))
@@ -326,4 +326,5 @@ module _ (set : List Configuration) (test : Configuration → Configuration → 
 pub numbered_length : {A : Type 0} (test : A → A → Bool) (firsts ps : List A) → length (numbered_from test firsts ps) ≡ length ps
 unfolding numbered_from
 numbered_length test firsts [] = refl
-numbered_length test firsts (p ∷ ps) = ap suc (numbered_length test _ ps)
+numbered_length {A = A} test firsts (p ∷ ps) =
+    ap suc (numbered_length test (cond (eqb (position {A = A} (λ f. test f p) firsts) (length firsts)) (firsts ++ (p ∷ [])) firsts) ps)

@@ -10,8 +10,8 @@ use native.Mathlib.Omega.{arith}
 use Rattle.std.proofs.Math.ListN.{get_or-append}
 use Rattle.std.proofs.Math.Seq.{get_or-append_seam}
 use Rattle.std.proofs.lemmas.Bool.{eqb-false}
-use Rattle.list_laws.specs.TestLaws.{Tested, tested, passes, fails}
-use Rattle.list_laws.specs.ListPlaces.{get_d_in}
+use Rattle.move_laws.specs.TestLaws.{Tested, tested, passes, fails}
+use Rattle.move_laws.specs.ListPlaces.{get_d_in}
 use Rattle.comparison.specs.Classes.{position, numbered_from, numbered}
 use Rattle.comparison_laws.specs.ClassLaws.{position_le, position_found, position_at, position_first}
 

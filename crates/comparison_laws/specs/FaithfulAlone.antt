@@ -2,12 +2,12 @@
 use Rattle.std.specs.Prelude.{◌≡◌, refl, ◌⊎◌, true, ℕ, zero, suc, ◌<◌, length, get_or}
 use Rattle.std.proofs.Common.{sym, ap, ap₂, ◌∙◌, subst, inl, inr, arith, ext_get_or}
 use mathlib.Core.List.{List, [], Memᴰ}
-use Rattle.list_laws.specs.TestLaws.{neither_below}
-use Rattle.list_laws.specs.AscendingLaws.{ascends_unique}
-use Rattle.list_laws.specs.ListPlaces.{get_d_in}
-use Rattle.sheets.specs.Sheet.{Configuration, Sheet}
+use Rattle.move_laws.specs.TestLaws.{neither_below}
+use Rattle.move_laws.specs.AscendingLaws.{ascends_unique}
+use Rattle.move_laws.specs.ListPlaces.{get_d_in}
+use Rattle.move_laws.specs.Sheet.{Configuration, Sheet}
 use Rattle.move_laws.specs.OrderLaws.{configuration_order}
-use Rattle.refinement.specs.Refinement.{Level}
+use Rattle.comparison.specs.Refinement.{Level}
 use Rattle.comparison.specs.SheetTransitions.{transitions}
 use Rattle.comparison.specs.Classes.{share}
 use Rattle.comparison.specs.Trail.{TrailStep}

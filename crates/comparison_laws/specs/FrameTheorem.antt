@@ -2,11 +2,11 @@
 -- other, in document 01's order, and otherwise the answer.
 use Rattle.std.specs.Prelude.{◌≡◌, refl, ◌↔◌, Bool, true, false, cond, List, ℕ, ◌≤◌, length, ltb}
 use Rattle.std.proofs.Common.{sym, ap, ◌∙◌, subst, ltb-true, ltb-false, lt-ltb, le-ltb}
-use Rattle.list_laws.specs.TestLaws.{true_false}
-use Rattle.sheets.specs.Refusals.{large_set, short_answer, short_work}
-use Rattle.sheets.specs.Sheet.{Configuration, Sheet}
-use Rattle.sheet_reading.specs.Reading.{Reading, got, refused}
-use Rattle.sheet_reading.specs.Sound.{ReadsAs}
+use Rattle.move_laws.specs.TestLaws.{true_false}
+use Rattle.comparison.specs.Refusals.{large_set, short_answer, short_work}
+use Rattle.move_laws.specs.Sheet.{Configuration, Sheet}
+use Rattle.comparison.specs.Reading.{Reading, got, refused}
+use Rattle.comparison.specs.Sound.{ReadsAs}
 use Rattle.comparison.specs.CallLimits.{Limits, work_length}
 use Rattle.comparison.specs.Set.{explored, fits}
 use Rattle.comparison.specs.Outcome.{Outcome, reported, refusal}

@@ -1,8 +1,8 @@
 -- In each row of the known cases what the definitions give is what document 01 says.
 use Rattle.std.specs.Prelude.{◌≡◌, refl, Bool, true, false, T}
 use mathlib.Core.List.{Memᴰ}
-use Rattle.lists.specs.Lists.{all}
-use Rattle.list_laws.specs.Members.{all_yes, same_equal}
+use Rattle.move_laws.specs.Lists.{all}
+use Rattle.move_laws.specs.Members.{all_yes, same_equal}
 use Rattle.comparison.specs.KnownCases.{Row, right, table, all_right}
 
 holds_true : (b : Bool) → T b → b ≡ true

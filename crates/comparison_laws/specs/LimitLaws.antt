@@ -2,12 +2,12 @@
 -- lower one; and of the refusals only 21 goes by the limits, with 22 behind it.
 use Rattle.std.specs.Prelude.{◌≡◌, refl, ◌↔◌, ◌⊎◌, false, List, ℕ, ◌≤◌, ◌<◌}
 use Rattle.std.proofs.Common.{sym, ap, ◌∙◌, subst, inl, inr, arith}
-use Rattle.lists.specs.Lists.{MoreThan}
-use Rattle.list_laws.specs.AscendingLaws.{ascends_unique}
-use Rattle.sheets.specs.Refusals.{large_set, short_answer}
-use Rattle.sheets.specs.Sheet.{Configuration, Sheet, start}
-use Rattle.sheets.specs.SheetBytes.{ChoiceIs}
-use Rattle.sheet_reading.specs.SheetRead.{one_sheet}
+use Rattle.move_laws.specs.Lists.{MoreThan}
+use Rattle.move_laws.specs.AscendingLaws.{ascends_unique}
+use Rattle.comparison.specs.Refusals.{large_set, short_answer}
+use Rattle.move_laws.specs.Sheet.{Configuration, Sheet, start}
+use Rattle.comparison.specs.SheetBytes.{ChoiceIs}
+use Rattle.comparison.specs.SheetRead.{one_sheet}
 use Rattle.move_laws.specs.OrderLaws.{configuration_order}
 use Rattle.comparison.specs.CallLimits.{Limits, NoGreater, limits, desk_limits, work_length}
 use Rattle.comparison.specs.Set.{over, explored}

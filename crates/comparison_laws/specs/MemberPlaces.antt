@@ -1,11 +1,11 @@
 -- A member of an ascending set stands at its place, and has the class whose number stands there.
 use Rattle.std.specs.Prelude.{◌≡◌, ◌↔◌, true, List, ℕ, ◌<◌, length, get_or}
-use Rattle.std.proofs.Common.{sym, ap, ◌∙◌, subst, eqb-true, eq_eqb}
-use Rattle.list_laws.specs.TestLaws.{neither_below}
-use Rattle.lists.specs.Lists.{Ascends}
-use Rattle.list_laws.specs.ListPlaces.{get_d_in, get_d_any, ascends_places}
-use Rattle.sheets.specs.Sheet.{Configuration}
-use Rattle.moves.specs.Orders.{configuration_before}
+use Rattle.std.proofs.Common.{sym, ap, ◌∙◌, subst, eqb-true, eq-eqb}
+use Rattle.move_laws.specs.TestLaws.{neither_below}
+use Rattle.move_laws.specs.Lists.{Ascends}
+use Rattle.move_laws.specs.ListPlaces.{get_d_in, get_d_any, ascends_places}
+use Rattle.move_laws.specs.Sheet.{Configuration}
+use Rattle.move_laws.specs.Orders.{configuration_before}
 use Rattle.move_laws.specs.OrderLaws.{configuration_order}
 use Rattle.comparison.specs.Classes.{place_of, share}
 use Rattle.comparison_laws.specs.ClassLaws.{place_of_lt, place_of_at}
@@ -33,4 +33,4 @@ pub share_places : (set : List Configuration) → Ascends configuration_before s
 share_places set asc numbers d i j l k =
     let ei = ap (λ (n : ℕ). get_or numbers n 0) (place_of_member set asc d i l) in
     let ej = ap (λ (n : ℕ). get_or numbers n 0) (place_of_member set asc d j k) in
-    ((λ h. sym ei ∙ eqb-true _ _ h ∙ ej), (λ e. eq_eqb _ _ (ei ∙ e ∙ sym ej)))
+    ((λ h. sym ei ∙ eqb-true _ _ h ∙ ej), (λ e. eq-eqb _ _ (ei ∙ e ∙ sym ej)))

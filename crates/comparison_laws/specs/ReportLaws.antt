@@ -2,16 +2,16 @@
 use Rattle.std.specs.Prelude.{◌≡◌, refl, false, ℕ, ◌+◌, ◌*◌, ◌≤◌, length, ltb}
 use Rattle.std.proofs.Common.{◌∙◌, arith, suc-mul, le_trans, mul-le-mul_right, length-append, ltb-false}
 use mathlib.Core.List.{List, [], ◌∷◌, ◌++◌, Memᴰ}
-use Rattle.list_laws.specs.TestLaws.{or_false}
-use Rattle.lists.specs.Lists.{any, concat_map}
-use Rattle.list_laws.specs.Members.{any_no}
-use Rattle.sheets.specs.Sheet.{Configuration, Sheet}
+use Rattle.move_laws.specs.TestLaws.{or_false}
+use Rattle.move_laws.specs.Lists.{any, concat_map}
+use Rattle.move_laws.specs.Members.{any_no}
+use Rattle.move_laws.specs.Sheet.{Configuration, Sheet}
 use Rattle.comparison.specs.CallLimits.{Limits, word_length, member_length, step_length, report_room}
 use Rattle.comparison.specs.Set.{over}
 use Rattle.comparison.specs.Classes.{class_of}
 use Rattle.comparison.specs.Rounds.{rounds}
 use Rattle.comparison.specs.Trail.{TrailStep}
-use Rattle.sheets.specs.SheetBytes.{word_bytes}
+use Rattle.comparison.specs.SheetBytes.{word_bytes}
 use Rattle.comparison.specs.Report.{member_bytes, members_bytes, step_bytes, Report, report_on, report_bytes}
 use Rattle.comparison_laws.specs.TrailLaws.{trail_length}
 

@@ -2,20 +2,20 @@
 -- there are no more rounds than members.
 use Rattle.std.specs.Prelude.{◌≡◌, ◌⊎◌, Bool, get_or}
 use Rattle.std.proofs.Math.Path.{refl, sym, subst}
-use Rattle.std.proofs.Common.{ap, ◌∙◌, arith, eqb-true, eq_eqb}
+use Rattle.std.proofs.Common.{ap, ◌∙◌, arith, eqb-true, eq-eqb}
 use Rattle.std.proofs.Math.Logic.{inl, inr, ⊎_elim}
 use Rattle.std.proofs.Math.Bool.{true, false}
 use mathlib.Core.List.{List, [], ◌∷◌, Memᴰ}
 use Prim.Native.Nat.{ℕ, zero, suc, ◌+◌, ◌-◌, ◌≤◌, ◌<◌}
 use Rattle.std.proofs.Math.ListN.{length}
-use Rattle.list_laws.specs.TestLaws.{true_false, same_test}
-use Rattle.lists.specs.Lists.{same_numbers}
-use Rattle.list_laws.specs.Members.{same_equal, equal_same}
-use Rattle.sheets.specs.Sheet.{Configuration, Sheet}
-use Rattle.sheets.specs.WellFormed.{WellFormed}
+use Rattle.move_laws.specs.TestLaws.{true_false, same_test}
+use Rattle.move_laws.specs.Lists.{same_numbers}
+use Rattle.move_laws.specs.Members.{same_equal, equal_same}
+use Rattle.move_laws.specs.Sheet.{Configuration, Sheet}
+use Rattle.move_laws.specs.WellFormed.{WellFormed}
 use Rattle.comparison.specs.Classes.{numbered}
 use Rattle.comparison.specs.Rounds.{stores_equal, together, refined, classes, rounds_from, rounds, result_of}
-use Rattle.refinement.specs.Refinement.{Round}
+use Rattle.comparison.specs.Refinement.{Round}
 use Rattle.comparison.specs.SheetTransitions.{transitions}
 use Rattle.comparison_laws.specs.ClassLaws.{Equivalence, numbered_same, numbered_by_first, numbered_length}
 use Rattle.comparison.specs.Promise.{NumberedByFirst}
@@ -77,7 +77,7 @@ module _ (sheet : Sheet) (set : List Configuration) where
     test_round (suc n) p q mp mq h = together_yes sheet wf set closed (classes sheet set n) n (sharing sheet wf set closed n) p q mp mq h
 
     round_test : (n : ℕ) (p q : Configuration) → Memᴰ p set → Memᴰ q set → Round (transitions sheet) n p q → test_of n p q ≡ true
-    round_test zero p q mp mq h = eq_eqb p.store q.store h
+    round_test zero p q mp mq h = eq-eqb p.store q.store h
     round_test (suc n) p q mp mq h = together_test sheet wf set closed (classes sheet set n) n (sharing sheet wf set closed n) p q mp mq h
 
     -- a round is equal to its successor, or its successor has more classes

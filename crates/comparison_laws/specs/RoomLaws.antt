@@ -2,8 +2,8 @@
 -- and 21 are given by their own conditions alone, where reading has other numbers.
 use Rattle.std.specs.Prelude.{◌≡◌, refl, Bool, cond, List, ℕ, ◌≤◌, ◌<◌, length}
 use Rattle.std.proofs.Common.{ap, arith, lt-ltb, le-ltb}
-use Rattle.sheets.specs.Refusals.{large_set, short_answer}
-use Rattle.sheets.specs.Sheet.{Configuration, Sheet}
+use Rattle.comparison.specs.Refusals.{large_set, short_answer}
+use Rattle.move_laws.specs.Sheet.{Configuration, Sheet}
 use Rattle.comparison.specs.CallLimits.{Limits}
 use Rattle.comparison.specs.Outcome.{Outcome, reported, refusal}
 use Rattle.comparison.specs.Frame.{with_room}

@@ -4,18 +4,18 @@ use Rattle.std.specs.Prelude.{◌≡◌, refl, ◌↔◌, Bool, true, false, ◌
 use Rattle.std.proofs.Common.{sym, ◌∙◌, subst}
 use mathlib.Core.List.{List, Memᴰ}
 use Prim.Native.Nat.{ℕ, zero, suc}
-use borrow.Author.Tests.{eqb-true, eq_eqb}
-use Rattle.list_laws.specs.TestLaws.{true_false, and_left, and_right, and_intro, or_left, or_right, Tested, tested, passes, fails}
-use Rattle.list_laws.specs.Members.{any_yes, any_mem, all_yes, all_of}
-use Rattle.stores.specs.Stores.{strictly_below}
-use Rattle.store_laws.specs.StoreLaws.{below_within, within_below}
-use Rattle.sheets.specs.Sheet.{Configuration, Sheet}
-use Rattle.sheets.specs.WellFormed.{WellFormed}
-use Rattle.moves.specs.Orders.{Move}
-use Rattle.moves.specs.Moves.{moves, add}
+use borrow.Author.Tests.{eqb-true, eq-eqb}
+use Rattle.move_laws.specs.TestLaws.{true_false, and_left, and_right, and_intro, or_left, or_right, Tested, tested, passes, fails}
+use Rattle.move_laws.specs.Members.{any_yes, any_mem, all_yes, all_of}
+use Rattle.move_laws.specs.Stores.{strictly_below}
+use Rattle.move_laws.specs.StoreLaws.{below_within, within_below}
+use Rattle.move_laws.specs.Sheet.{Configuration, Sheet}
+use Rattle.move_laws.specs.WellFormed.{WellFormed}
+use Rattle.move_laws.specs.Orders.{Move}
+use Rattle.move_laws.specs.Moves.{moves, add}
 use Rattle.comparison.specs.Classes.{share}
 use Rattle.comparison.specs.Rounds.{stores_equal, redundant, answers, answered, together, refined, classes}
-use Rattle.refinement.specs.Refinement.{Redundant, Answered, Round}
+use Rattle.comparison.specs.Refinement.{Redundant, Answered, Round}
 use Rattle.refinement_laws.specs.RoundLevels.{round_refl, round_sym, round_trans}
 use Rattle.comparison.specs.SheetTransitions.{transitions}
 use Rattle.comparison_laws.specs.SheetMoves.{lawful}
@@ -96,7 +96,7 @@ module _ (sheet : Sheet) (wf : WellFormed sheet) (set : List Configuration) (clo
             let k : Move = record { label = m.label; target = x.0 } in
             or_right (redundant sheet set numbers p m)
             (any_mem (λ k. eqb k.label m.label && share set numbers m.target k.target) (moves sheet q) {a = k} x.1
-            (and_intro (eq_eqb m.label m.label refl) (sh.from_round m.target x.0 (closed.targets p m mp i) (closed.targets q k mq x.1) x.2)))
+            (and_intro (eq-eqb m.label m.label refl) (sh.from_round m.target x.0 (closed.targets p m mp i) (closed.targets q k mq x.1) x.2)))
 
     -- the test of the next round is the next round
     pub together_yes : (p q : Configuration) → Memᴰ p set → Memᴰ q set → together sheet set numbers p q ≡ true → Round (transitions sheet) (suc n) p q
@@ -130,9 +130,9 @@ module _ (sheet : Sheet) (wf : WellFormed sheet) (set : List Configuration) (clo
 
   pub stores_equivalence : Equivalence set (stores_equal sheet set)
   stores_equivalence = record {
-    reflexive = λ p m. eq_eqb p.store p.store refl;
-    symmetric = λ p q mp mq h. eq_eqb q.store p.store (sym (eqb-true p.store q.store h));
-    transitive = λ p q r mp mq mr h k. eq_eqb p.store r.store (eqb-true p.store q.store h ∙ eqb-true q.store r.store k);
+    reflexive = λ p m. eq-eqb p.store p.store refl;
+    symmetric = λ p q mp mq h. eq-eqb q.store p.store (sym (eqb-true p.store q.store h));
+    transitive = λ p q r mp mq mr h k. eq-eqb p.store r.store (eqb-true p.store q.store h ∙ eqb-true q.store r.store k);
   }
 
   -- the class numbers of round n are round n
@@ -140,7 +140,7 @@ module _ (sheet : Sheet) (wf : WellFormed sheet) (set : List Configuration) (clo
   unfolding classes
   sharing zero = record {
     to_round = λ p q mp mq h. eqb-true p.store q.store (share_test set (stores_equal sheet set) stores_equivalence p q mp mq h);
-    from_round = λ p q mp mq h. test_share set (stores_equal sheet set) stores_equivalence p q mp mq (eq_eqb p.store q.store h);
+    from_round = λ p q mp mq h. test_share set (stores_equal sheet set) stores_equivalence p q mp mq (eq-eqb p.store q.store h);
   }
   sharing (suc n) = sharing_next (classes sheet set n) n (sharing n)
 

@@ -9,20 +9,20 @@ use Prim.Native.Nat.{ℕ, zero, suc, ◌+◌, ◌≤◌, ◌<◌}
 use Rattle.std.proofs.Math.ListN.{length}
 use Rattle.std.proofs.lemmas.List.{length-map}
 use Rattle.std.proofs.lemmas.Bool.{eqb-false, not-true}
-use Rattle.list_laws.specs.TestLaws.{true_false, and_left, and_right, and_intro, or_left, or_right, not_passes, Tested, tested, passes, fails}
-use Rattle.lists.specs.Lists.{select, any, concat_map, Ascends, arrange, Distinct, no_elements, one_more}
-use Rattle.list_laws.specs.Members.{mem_select, select_mem, any_yes, any_mem, mem_map, map_mem, mem_concat_map, concat_map_mem}
-use Rattle.list_laws.specs.AscendingLaws.{arrange_ascends, arrange_keeps, arrange_only}
-use Rattle.list_laws.specs.Counting.{distinct_length, distinct_append, distinct_map, ascends_distinct, ascends_filled}
-use Rattle.stores.specs.Stores.{strictly_below}
-use Rattle.store_laws.specs.StoreLaws.{below_within, within_below}
-use Rattle.sheets.specs.Sheet.{Configuration, Sheet}
-use Rattle.moves.specs.Orders.{Move, configuration_before, move_before}
+use Rattle.move_laws.specs.TestLaws.{true_false, and_left, and_right, and_intro, or_left, or_right, not_passes, Tested, tested, passes, fails}
+use Rattle.move_laws.specs.Lists.{select, any, concat_map, Ascends, arrange, Distinct, no_elements, one_more}
+use Rattle.move_laws.specs.Members.{mem_select, select_mem, any_yes, any_mem, mem_map, map_mem, mem_concat_map, concat_map_mem}
+use Rattle.move_laws.specs.AscendingLaws.{arrange_ascends, arrange_keeps, arrange_only}
+use Rattle.move_laws.specs.Counting.{distinct_length, distinct_append, distinct_map, ascends_distinct, ascends_filled}
+use Rattle.move_laws.specs.Stores.{strictly_below}
+use Rattle.move_laws.specs.StoreLaws.{below_within, within_below}
+use Rattle.move_laws.specs.Sheet.{Configuration, Sheet}
+use Rattle.move_laws.specs.Orders.{Move, configuration_before, move_before}
 use Rattle.move_laws.specs.OrderLaws.{configuration_order, move_order}
-use Rattle.moves.specs.Moves.{moves, add, moves_from}
+use Rattle.move_laws.specs.Moves.{moves, add, moves_from}
 use Rattle.comparison.specs.CallLimits.{Limits}
 use Rattle.comparison.specs.Set.{added_below, reached, grown, over, explored_from, explored, move_count, fits}
-use Rattle.refinement.specs.Refinement.{Member, seed, target, added}
+use Rattle.comparison.specs.Refinement.{Member, seed, target, added}
 use Rattle.refinement_laws.specs.StableRounds.{member_least}
 use Rattle.comparison.specs.SheetTransitions.{transitions}
 use Rattle.comparison.specs.Promise.{MemberMove, PassesLimit, many_members, many_threads_lem, many_moves}

@@ -9,19 +9,19 @@ use Rattle.std.proofs.Math.Decide.{ℕ_discrete}
 use Rattle.std.specs.Int.Bits.{bit_or}
 use Rattle.std.proofs.lemmas.Nat.{or_lt}
 use Rattle.std.proofs.Math.ListN.{get_or-eq_default}
-use Rattle.list_laws.specs.Members.{mem_map}
-use Rattle.list_laws.specs.TestLaws.{test_dec, not_dec}
-use Rattle.list_laws.specs.AscendingLaws.{sort_up_only, sort_up_not_falling, arrange_only}
-use Rattle.stores.specs.FactSets.{Within}
-use Rattle.store_laws.specs.FactSetLaws.{within_refl, within_trans, within_antisym, within_le}
-use Rattle.stores.specs.Stores.{Constraint, conclusions, includes, join}
-use Rattle.store_laws.specs.StoreLaws.{conclusions_lt, closure_lt, join_closed, join_left, join_swap, within_join, join_within, least_within, includes_within, within_includes}
-use Rattle.sheets.specs.Sheet.{Node, stop, tell, ask, both, either, Configuration, Sheet, node_of, opened}
-use Rattle.sheets.specs.WellFormed.{Process, OfSheet, NodeFits, WellFormed}
-use Rattle.sheet_laws.specs.OpeningLaws.{opened_opens}
-use Rattle.moves.specs.Orders.{Move}
+use Rattle.move_laws.specs.Members.{mem_map}
+use Rattle.move_laws.specs.TestLaws.{test_dec, not_dec}
+use Rattle.move_laws.specs.AscendingLaws.{sort_up_only, sort_up_not_falling, arrange_only}
+use Rattle.move_laws.specs.FactSets.{Within}
+use Rattle.move_laws.specs.FactSetLaws.{within_refl, within_trans, within_antisym, within_le}
+use Rattle.move_laws.specs.Stores.{Constraint, conclusions, includes, join}
+use Rattle.move_laws.specs.StoreLaws.{conclusions_lt, closure_lt, join_closed, join_left, join_swap, within_join, join_within, least_within, includes_within, within_includes}
+use Rattle.move_laws.specs.Sheet.{Node, stop, tell, ask, both, either, Configuration, Sheet, node_of, opened}
+use Rattle.move_laws.specs.WellFormed.{Process, OfSheet, NodeFits, WellFormed}
+use Rattle.move_laws.specs.OpeningLaws.{opened_opens}
+use Rattle.move_laws.specs.Orders.{Move}
 use Rattle.move_laws.specs.OrderLaws.{move_order}
-use Rattle.moves.specs.Moves.{Step, labels, beside, steps_of, steps_within, steps, move_of, moves_from, moves, Moves}
+use Rattle.move_laws.specs.Moves.{Step, labels, beside, steps_of, steps_within, steps, move_of, moves_from, moves, Moves}
 use Rattle.move_laws.specs.LabelLaws.{label_constraint, least_constraint}
 use Rattle.move_laws.specs.MoveLaws.{carry_move, move_labelled, move_has_label, move_sound, reduces_more, move_complete, add_add}
 use Rattle.refinement_laws.specs.LawfulMoves.{Lawful}

@@ -5,15 +5,15 @@ use Rattle.std.proofs.Common.{sym, subst, ⊎_elim, arith, eqb-true}
 use mathlib.Core.List.Memᴰ
 use mathlib.Core.List.{List, [], ◌∷◌, Memᴰ}
 use Rattle.std.proofs.lemmas.Bool.{eqb-false}
-use Rattle.sheets.specs.Sheet.{Configuration, Sheet}
-use Rattle.sheets.specs.WellFormed.{OfSheet, WellFormed}
+use Rattle.move_laws.specs.Sheet.{Configuration, Sheet}
+use Rattle.move_laws.specs.WellFormed.{OfSheet, WellFormed}
 use Rattle.comparison.specs.CallLimits.{Limits}
 use Rattle.comparison.specs.Set.{over, explored, fits}
 use Rattle.comparison.specs.Classes.{share}
 use Rattle.comparison.specs.Rounds.{classes, rounds, result_of, apart_in}
 use Rattle.comparison.specs.Trail.{trail}
 use Rattle.comparison.specs.Report.{Verdict, SAME, DIFF, verdict_of, round_of, report_on}
-use Rattle.refinement.specs.Refinement.{Transitions, Member, Round, Level, TellsApart, Bisimilar, FirstApart}
+use Rattle.comparison.specs.Refinement.{Transitions, Member, Round, Level, TellsApart, Bisimilar, FirstApart}
 use Rattle.refinement_laws.specs.RoundLevels.{round_level, first_apart, always_together}
 use Rattle.refinement_laws.specs.LevelLaws.{bisimulation_level}
 use Rattle.refinement_laws.specs.StableRounds.{Stable, stable_always, stable_bisimilar}

@@ -1,13 +1,13 @@
 -- The trail of two configurations that some round separates is the only one that can be walked: the promise fixes it step by step.
 use Rattle.std.specs.Prelude.{◌≡◌, refl, Bool, true, false, List, [], ◌∷◌, ℕ, suc}
 use Rattle.std.proofs.Common.{sym, ap, ap₂, ◌∙◌, subst, arith}
-use Rattle.list_laws.specs.TestLaws.{neither_below}
-use Rattle.list_laws.specs.AscendingLaws.{Order}
-use Rattle.sheets.specs.Sheet.{Configuration, Sheet}
-use Rattle.moves.specs.Orders.{Move}
-use Rattle.moves.specs.Moves.{Moves}
+use Rattle.move_laws.specs.TestLaws.{neither_below}
+use Rattle.move_laws.specs.AscendingLaws.{Order}
+use Rattle.move_laws.specs.Sheet.{Configuration, Sheet}
+use Rattle.move_laws.specs.Orders.{Move}
+use Rattle.move_laws.specs.Moves.{Moves}
 use Rattle.move_laws.specs.OrderLaws.{configuration_order, move_order}
-use Rattle.refinement.specs.Refinement.{Round, FirstApart}
+use Rattle.comparison.specs.Refinement.{Round, FirstApart}
 use Rattle.comparison.specs.SheetTransitions.{transitions}
 use Rattle.comparison.specs.Trail as trail
 use Rattle.comparison.specs.Trail.{TrailStep}

@@ -9,15 +9,15 @@ use Prim.Native.Nat.{ℕ, zero, suc, ◌-◌, ◌≤◌, ◌<◌}
 use native.Mathlib.Omega.{arith}
 use Rattle.std.proofs.Math.ListN.{length, get_or}
 use Rattle.std.proofs.Math.Dec.{eqb}
-use borrow.Author.Tests.{eqb-true, eqb-false, eq_eqb, ltb-true, ltb-false, not-false, not-true}
-use Rattle.list_laws.specs.TestLaws.{and_intro, and_left, and_right, or_left, or_right, or_false, same_test, not_passes, Tested, tested, passes, fails}
-use Rattle.lists.specs.Lists.{select, Ascends, then_rest}
-use Rattle.list_laws.specs.Members.{mem_select, select_mem, any_no, all_of}
-use Rattle.list_laws.specs.AscendingLaws.{ascends_head, ascends_tail, not_both, none_before_head, select_ascends}
+use borrow.Author.Tests.{eqb-true, eqb-false, eq-eqb, ltb-true, ltb-false, not-false, not-true}
+use Rattle.move_laws.specs.TestLaws.{and_intro, and_left, and_right, or_left, or_right, or_false, same_test, not_passes, Tested, tested, passes, fails}
+use Rattle.move_laws.specs.Lists.{select, Ascends, then_rest}
+use Rattle.move_laws.specs.Members.{mem_select, select_mem, any_no, all_of}
+use Rattle.move_laws.specs.AscendingLaws.{ascends_head, ascends_tail, not_both, none_before_head, select_ascends}
 use Rattle.move_laws.specs.OrderLaws.{move_order}
-use Rattle.sheets.specs.Sheet.{Configuration, Sheet}
-use Rattle.moves.specs.Orders.{Move, move_before}
-use Rattle.moves.specs.Moves.{moves}
+use Rattle.move_laws.specs.Sheet.{Configuration, Sheet}
+use Rattle.move_laws.specs.Orders.{Move, move_before}
+use Rattle.move_laws.specs.Moves.{moves}
 use Rattle.comparison.specs.Classes.{class_of, share}
 use Rattle.comparison.specs.Rounds.{redundant, answers, answered, apart_in, result_of}
 use Rattle.comparison.specs.Trail.{Side, left, right, Reply, none, move, TrailStep, highest, highest_of, unanswered, reply_to, after, first_of, trail_from, trail}
@@ -26,7 +26,7 @@ use Rattle.comparison_laws.specs.ClassLaws.{position_le, position_at, position_b
 
 -- ---- the first round that has two apart
 eqb_sym : (a b : ℕ) → eqb a b ≡ eqb b a
-eqb_sym a b = same_test (eqb a b) (eqb b a) (λ h. eq_eqb b a (sym (eqb-true a b h))) (λ h. eq_eqb a b (sym (eqb-true b a h)))
+eqb_sym a b = same_test (eqb a b) (eqb b a) (λ h. eq-eqb b a (sym (eqb-true a b h))) (λ h. eq-eqb a b (sym (eqb-true b a h)))
 
 pub share_sym : (set : List Configuration) (classes : List ℕ) (p q : Configuration) → share set classes p q ≡ share set classes q p
 share_sym set classes p q = eqb_sym (class_of set classes p) (class_of set classes q)
@@ -174,7 +174,7 @@ module _ (sheet : Sheet) (set : List Configuration) (rs : List (List ℕ)) where
       → apart_in set rs m.target c.target ≤ apart_in set rs m.target k.target
   reply_highest q m k c e i l =
       go (select (λ k. eqb k.label m.label) (moves sheet q))
-      (select_mem (λ k. eqb k.label m.label) (moves sheet q) i (eq_eqb c.label m.label l)) e
+      (select_mem (λ k. eqb k.label m.label) (moves sheet q) i (eq-eqb c.label m.label l)) e
     where
       go : (ks : List Move) → Memᴰ c ks → highest_of (apart_in set rs m.target) ks ≡ move k
           → apart_in set rs m.target c.target ≤ apart_in set rs m.target k.target
@@ -189,7 +189,7 @@ module _ (sheet : Sheet) (set : List Configuration) (rs : List (List ℕ)) where
       → apart_in set rs m.target c.target ≡ apart_in set rs m.target k.target → move_before c k ≡ true → ⊥
   reply_earliest q m k c e i l =
       go (select (λ k. eqb k.label m.label) (moves sheet q))
-      (select_mem (λ k. eqb k.label m.label) (moves sheet q) i (eq_eqb c.label m.label l))
+      (select_mem (λ k. eqb k.label m.label) (moves sheet q) i (eq-eqb c.label m.label l))
       (select_ascends move_order (λ k. eqb k.label m.label) (moves sheet q) (moves_ascend sheet q)) e
     where
       go : (ks : List Move) → Memᴰ c ks → Ascends move_before ks → highest_of (apart_in set rs m.target) ks ≡ move k
@@ -205,7 +205,7 @@ module _ (sheet : Sheet) (set : List Configuration) (rs : List (List ℕ)) where
   pub reply_none : (q : Configuration) (m c : Move) → reply_to sheet set rs q m ≡ none → Memᴰ c (moves sheet q) → c.label ≡ m.label → ⊥
   reply_none q m c e i l =
       go (select (λ k. eqb k.label m.label) (moves sheet q))
-      (select_mem (λ k. eqb k.label m.label) (moves sheet q) i (eq_eqb c.label m.label l)) e
+      (select_mem (λ k. eqb k.label m.label) (moves sheet q) i (eq-eqb c.label m.label l)) e
     where
       go : (ks : List Move) → Memᴰ c ks → highest_of (apart_in set rs m.target) ks ≡ none → ⊥
       go [] j e = mathlib.Core.List.Memᴰ.not-nil j
@@ -219,7 +219,7 @@ module _ (sheet : Sheet) (set : List Configuration) (rs : List (List ℕ)) where
       go : Memᴰ k (moves sheet q) × (k.label ≡ m.label) → share set (get_or rs r []) m.target k.target ≡ false
       go x =
           let h = any_no (λ k. eqb k.label m.label && share set (get_or rs r []) m.target k.target) (moves sheet q) a x.0 in
-          rw (eq_eqb k.label m.label x.1) at h
+          rw (eq-eqb k.label m.label x.1) at h
 
   -- ---- lengths of trails
   -- a step and what follows it, where what follows is no longer than the round of the new pair
@@ -274,7 +274,7 @@ module _ (sheet : Sheet) (set : List Configuration) (rs : List (List ℕ)) where
   pub trail_none : (n : ℕ) (p q : Configuration) → apart_in set rs p q ≡ length rs → trail_from sheet set rs n p q ≡ []
   unfolding trail_from
   trail_none zero p q e = refl
-  trail_none (suc n) p q e = rw (or_right (eqb (apart_in set rs p q) 0) (eq_eqb (apart_in set rs p q) (length rs) e), trail_from)
+  trail_none (suc n) p q e = rw (or_right (eqb (apart_in set rs p q) 0) (eq-eqb (apart_in set rs p q) (length rs) e), trail_from)
 
   -- A trail is no longer than the result's round.
   pub trail_length : (p q : Configuration) → length (trail sheet set rs p q) ≤ result_of rs

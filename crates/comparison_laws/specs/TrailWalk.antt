@@ -9,20 +9,20 @@ use mathlib.Core.List.{List, [], ◌∷◌, Memᴰ}
 use Prim.Native.Nat.{ℕ, zero, suc, ◌-◌, ◌≤◌, ◌<◌}
 use Rattle.std.proofs.Math.ListN.{length, get_or}
 use Rattle.std.proofs.Math.Dec.{eqb}
-use borrow.Author.Tests.{eqb-true, eqb-false, eq_eqb, ltb-true, ltb-false}
-use Rattle.list_laws.specs.TestLaws.{true_false, and_left, and_right, and_intro, or_false, not_passes, Tested, tested, passes, fails}
-use Rattle.list_laws.specs.Members.{any_yes, any_no, select_mem}
-use Rattle.lists.specs.Lists.{Ascends}
-use Rattle.list_laws.specs.AscendingLaws.{none_before_head, select_ascends}
+use borrow.Author.Tests.{eqb-true, eqb-false, eq-eqb, ltb-true, ltb-false}
+use Rattle.move_laws.specs.TestLaws.{true_false, and_left, and_right, and_intro, or_false, not_passes, Tested, tested, passes, fails}
+use Rattle.move_laws.specs.Members.{any_yes, any_no, select_mem}
+use Rattle.move_laws.specs.Lists.{Ascends}
+use Rattle.move_laws.specs.AscendingLaws.{none_before_head, select_ascends}
 use Rattle.move_laws.specs.OrderLaws.{move_order}
-use Rattle.sheets.specs.Sheet.{Configuration, Sheet}
-use Rattle.sheets.specs.WellFormed.{WellFormed}
-use Rattle.moves.specs.Orders.{Move, move_before}
-use Rattle.moves.specs.Moves.{moves, Moves}
+use Rattle.move_laws.specs.Sheet.{Configuration, Sheet}
+use Rattle.move_laws.specs.WellFormed.{WellFormed}
+use Rattle.move_laws.specs.Orders.{Move, move_before}
+use Rattle.move_laws.specs.Moves.{moves, Moves}
 use Rattle.comparison.specs.Classes.{share}
 use Rattle.comparison.specs.Rounds.{redundant, answers, rounds, apart_in}
 use Rattle.comparison.specs.Trail.{left, right, Reply, none, move, TrailStep, unanswered, reply_to, after, first_of, trail_from}
-use Rattle.refinement.specs.Refinement.{Transitions, Answered, Round, FirstApart}
+use Rattle.comparison.specs.Refinement.{Transitions, Answered, Round, FirstApart}
 use Rattle.comparison.specs.SheetTransitions.{transitions}
 use Rattle.comparison.specs.Promise.{Tells, Telling, Replied, Walkable, unequal_stores, left_alone, left_replied, right_alone, right_replied}
 use Rattle.comparison_laws.specs.RoundLaws.{ClosedList, labelled, Sharing, sharing, redundant_no, redundant_test, answered_yes}
@@ -82,7 +82,7 @@ module _ (sheet : Sheet) (wf : WellFormed sheet) (set : List Configuration) (clo
               true_false (redundant sheet set classes p m) (redundant_test sheet wf set closed classes r (sharing_at r l) p m mp x.0 y) x.1;
           unanswered = λ u i g.
               true_false (eqb m.label m.label && share set classes m.target u)
-              (and_intro (eq_eqb m.label m.label refl)
+              (and_intro (eq-eqb m.label m.label refl)
               ((sharing_at r l).from_round m.target u (closed.targets p m mp x.0) (closed.targets q (labelled m.label u) mq i) g))
               (any_no (λ k. eqb k.label m.label && share set classes m.target k.target) (moves sheet q) x.2
               {a = labelled m.label u} i);
@@ -156,14 +156,14 @@ module _ (sheet : Sheet) (wf : WellFormed sheet) (set : List Configuration) (clo
             let d : apart_at m.target k.target ≤ apart_at m.target u =
             apart_most m.target u target_in_lem (closed.targets q c mq h) (apart_at m.target k.target) (omega (arith, a)) f in
             reply_earliest sheet set rs q m k c e h refl (omega (arith, b, d))
-            (rw (eq_eqb m.label k.label (sym (reply_mem sheet set rs q m k e).1)) before);
+            (rw (eq-eqb m.label k.label (sym (reply_mem sheet set rs q m k e).1)) before);
       }
         where
           apart_of : (u : Configuration) → Moves sheet q m.label u → share set classes m.target u ≡ false
           apart_of u h =
               let a = any_no (λ k. eqb k.label m.label && share set classes m.target k.target) (moves sheet q)
               (unanswered_mem sheet set rs classes p q {m = m} im).2 {a = labelled m.label u} h in
-              rw (eq_eqb m.label m.label refl) at a
+              rw (eq-eqb m.label m.label refl) at a
 
       reply_no : reply_to sheet set rs q m ≡ none → (u : Configuration) → Moves sheet q m.label u → ⊥
       reply_no e u h = reply_none sheet set rs q m (labelled m.label u) e h refl

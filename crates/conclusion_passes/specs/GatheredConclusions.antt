@@ -2,8 +2,8 @@
 use Rattle.std.specs.Prelude.{◌≡◌, cond, ℕ, ◌+◌, ◌-◌, ◌*◌, ◌/◌, ◌%◌, ◌^◌, ◌≤◌, ◌<◌, length, get_or, set, ltb}
 use mathlib.Core.List.{List, Memᴰ}
 use Rattle.std.specs.Int.Bits.{bit_or}
-use Rattle.stores.specs.FactSets.{Within}
-use Rattle.stores.specs.Stores.{Rule, Closed}
+use Rattle.closure_table.specs.FactSets.{Within}
+use Rattle.closure_table.specs.Stores.{Rule, Closed}
 
 -- x has the conclusion of each rule whose premise is inside s and has the facts of s from fact b on, and no fact that a closed set
 -- around s lacks

@@ -1,6 +1,6 @@
 -- Laws of gathering conclusions: the first entries, a pass over the table for one fact, and what the last pass leaves.
 use Rattle.std.specs.Prelude.{◌≡◌, refl, ◌⊎◌, Bool, true, false, cond, ℕ, ◌+◌, ◌-◌, ◌*◌, ◌/◌, ◌%◌, ◌^◌, ◌≤◌, ◌<◌, eqb, ltb, length, get_or, set, drop, replicate}
-use Rattle.std.proofs.Common.{sym, ap, ap₂, ◌∙◌, subst, inl, inr, mod-lt, mul-le-mul_right, add-mul, suc-mul, add-one, arith, pow_pos, pow-add, shr-shr, length-set, length-append, length-drop, get_or-set_same, get_or_set_other, drop_at, eqb-true, ltb-true, ltb-false}
+use Rattle.std.proofs.Common.{sym, ap, ap₂, ◌∙◌, subst, inl, inr, mod-lt, mul-le-mul_right, add-mul, suc-mul, add-one, arith, pow_pos, pow-add, shr-shr, length-set, length-append, length-drop, get_or-set_same, get_or-set_other, drop_at, eqb-true, ltb-true, ltb-false}
 use mathlib.Core.List.{List, ◌++◌, Memᴰ}
 use Rattle.std.proofs.Math.Nat.{div-eq_of_lt}
 use Rattle.std.proofs.Math.Pow.{split, high}
@@ -9,12 +9,12 @@ use Rattle.std.proofs.lemmas.Nat.{and_shr, and_mod, and_block}
 use Rattle.std.proofs.lemmas.List.{length-replicate, get_or-replicate}
 use Rattle.std.proofs.Math.ListN.{get_or-append}
 use Rattle.std.proofs.lemmas.Bool.{eqb-false}
-use Rattle.list_laws.specs.Frames.{SameOutside, outside_same, outside_set, outside_of_ends}
-use Rattle.list_laws.specs.TabulateLaws.{mem_tabulate, tabulate_mem}
-use Rattle.stores.specs.FactSets.{Within}
-use Rattle.store_laws.specs.FactSetLaws.{within_and, and_within, within_refl, within_trans, within_le, empty_within, within_or_left, within_or_right, or_least}
-use Rattle.stores.specs.Stores.{Rule, Closed, conclusions}
-use Rattle.set_closure.specs.RuleTable.{rule_in, rules_in}
+use Rattle.closure_table.specs.Frames.{SameOutside, outside_same, outside_set, outside_of_ends}
+use Rattle.closure_table.specs.TabulateLaws.{mem_tabulate, tabulate_mem}
+use Rattle.closure_table.specs.FactSets.{Within}
+use Rattle.closure_table.specs.FactSetLaws.{within_and, and_within, within_refl, within_trans, within_le, empty_within, within_or_left, within_or_right, or_least}
+use Rattle.closure_table.specs.Stores.{Rule, Closed, conclusions}
+use Rattle.closure_table.specs.RuleTable.{rule_in, rules_in}
 use Rattle.closure_table.specs.ClosureTable.{GrownBy}
 use Rattle.closure_table.specs.FillLaws.{closed_fewer, grown_lt, put_closure}
 use Rattle.conclusion_passes.specs.GatheredConclusions.{Entry, ConclusionsGathered, United, Spread, BlocksSpread, put_rule}
@@ -193,7 +193,7 @@ module _ (sets : List ℕ) (size : ℕ) where
             go s l false u =
                 let other = eqb-false s (premise_of sets i) u in
                 subst (Entry (rules_in sets (i + 1)) 0 s)
-                (sym (get_or_set_other table (premise_of sets i) s (with_rule sets i table) 0 other))
+                (sym (get_or-set_other table (premise_of sets i) s (with_rule sets i table) 0 other))
                 (entry_same l (λ e. other (sym e)))
         put false t = record { at = λ s l. entry_same l (λ e. omega (arith, ltb-false (premise_of sets i) size t)) }
 
@@ -231,7 +231,7 @@ module _ (from half k : ℕ) (before table : List ℕ) (u : United from half k b
     where
       other : (s : ℕ) → (s ≡ from + half + k → ⊥)
           → get_or (set table (from + half + k) (joined_at table (from + half + k) (from + k))) s 0 ≡ get_or table s 0
-      other s ne = get_or_set_other table (from + half + k) s (joined_at table (from + half + k) (from + k)) 0 ne
+      other s ne = get_or-set_other table (from + half + k) s (joined_at table (from + half + k) (from + k)) 0 ne
 
       go : (j : ℕ) → j < k + 1 → (t : Bool) → eqb j k ≡ t
           → get_or (set table (from + half + k) (joined_at table (from + half + k) (from + k))) (from + half + j) 0
@@ -394,4 +394,4 @@ gathered_put {rs} n table s t g = record { at = λ j l. subst (Entry rs n j) (sy
     below : (j : ℕ) → j < s → get_or (put_closure table s t) j 0 ≡ get_or table j 0
     below j l =
         let other : j ≡ s → ⊥ = λ (e : j ≡ s). omega arith in
-        get_or_set_other (set table s s) s j (get_or (set table s s) t 0) 0 other ∙ get_or_set_other table s j s 0 other
+        get_or-set_other (set table s s) s j (get_or (set table s s) t 0) 0 other ∙ get_or-set_other table s j s 0 other

@@ -1,10 +1,12 @@
 // Conclusions gathered in the entry of each set: those of the rules whose premise it is, then those of its subsets by one pass over
 // all entries for each fact.
+#![tactic(auto)]
+
 ghost use Rattle.std.specs.Prelude.{◌≡◌, ◌++◌, ◌+◌, ◌*◌, ◌≤◌, ◌<◌, ◌^◌, length, drop, replicate};
-ghost use Rattle.list_laws.specs.Frames.{SameOutside};
-ghost use Rattle.set_closure.specs.RuleTable.{rules_in};
+ghost use Rattle.closure_table.specs.Frames.{SameOutside};
+ghost use Rattle.closure_table.specs.RuleTable.{rules_in};
 ghost use Rattle.conclusion_passes.specs.GatheredConclusions.{ConclusionsGathered, United, Spread, put_rule};
-ghost use Rattle.sheets.specs.SheetLimits.{max_rules, max_facts};
+ghost use Rattle.closure_table.specs.SheetLimits.{max_rules, max_facts};
 
 use closure_table::sets_of;
 

@@ -1,9 +1,9 @@
 -- The marked sets with so many facts, word by word.
 use Rattle.std.specs.Prelude.{◌≡◌, ◌&&◌, List, ℕ, ◌+◌, ◌*◌, ◌%◌, ◌≤◌, ◌<◌, min, eqb}
-use Rattle.lists.specs.Lists.{select}
-use Rattle.stores.specs.FactSets.{digit}
-use Rattle.moves.specs.Moves.{count_up}
-use Rattle.ordered_search.specs.OrderedSearch.{fact_count}
+use Rattle.place_sets.specs.Lists.{select}
+use Rattle.set_digits.specs.FactSets.{digit}
+use Rattle.set_digits.specs.Moves.{count_up}
+use Rattle.set_digits.specs.OrderedSearch.{fact_count}
 use Rattle.set_digits.specs.SetDigits.{bit, mark}
 
 -- a word has the digits of the places with j facts

@@ -5,12 +5,12 @@ use Rattle.std.specs.Int.Bits.{bit_and}
 use Rattle.std.proofs.lemmas.Nat.{and_le_l}
 use Rattle.std.specs.Int.Count.{count_trailing_zeros}
 use Rattle.std.proofs.lemmas.Bool.{eqb-false}
-use Rattle.list_laws.specs.TestLaws.{Tested, passes, fails, tested}
-use Rattle.stores.specs.FactSets.{digit}
-use Rattle.store_laws.specs.FactSetLaws.{zero_digit, digit_and}
+use Rattle.set_digits.specs.TestLaws.{Tested, passes, fails, tested}
+use Rattle.set_digits.specs.FactSets.{digit}
+use Rattle.set_digits.specs.FactSetLaws.{zero_digit, digit_and}
 use Rattle.place_sets.specs.DigitLaws.{lowest, digit_le}
-use Rattle.ordered_search.specs.OrderedSearch.{fact_count}
-use Rattle.search_laws.specs.SizeLaws.{count_most}
+use Rattle.set_digits.specs.OrderedSearch.{fact_count}
+use Rattle.set_digits.specs.SizeLaws.{count_most}
 use Rattle.set_digits.specs.SetDigits.{bit, mark}
 use Rattle.digit_lists.specs.DigitLists.{PlacesOfSize, FirstLayer, LeastSize}
 use Rattle.digit_lists.specs.SizesInWord.{count_in_word}

@@ -1,3 +1,7 @@
+pub use Rattle.place_sets.specs.Lists
+pub use Rattle.place_sets.specs.Members
+pub use Rattle.place_sets.specs.StoreLaws
+pub use Rattle.place_sets.specs.Stores
 pub mod DigitLists
 pub mod SizeSplit
 pub mod SizesInWord

@@ -2,7 +2,7 @@
 use Rattle.std.specs.Prelude.{◌≡◌, refl, List, [], ◌∷◌, ◌++◌, ℕ, ◌+◌, ◌<◌, length, take, drop, set}
 use Rattle.std.proofs.Common.{sym, ap, ◌∙◌, append-nil, append_assoc, add-one, arith, length-append, length-drop, take-suc-set}
 use Rattle.std.proofs.lemmas.List.{drop-set-add}
-use Rattle.list_laws.specs.Frames.{SameOutside, outside_same, outside_set, outside_then}
+use Rattle.set_digits.specs.Frames.{SameOutside, outside_same, outside_set, outside_then}
 
 -- the slice w is u with the numbers xs behind the n numbers from `at` on, which makes r of them
 abbrev pub ListedBehind : ℕ → ℕ → List ℕ → List ℕ → ℕ → List ℕ → Type 0

@@ -3,9 +3,9 @@ use Rattle.std.specs.Prelude.{◌≡◌, refl, ℕ, zero, suc, ◌+◌, ◌-◌,
 use Rattle.std.proofs.Common.{sym, ap, ap₂, ◌∙◌, suc-add, zero-add, mod-eq_of_lt, arith, shr-shr}
 use Rattle.std.proofs.Math.Nat.{div-eq_of_lt}
 use Rattle.std.proofs.Math.Pow.{field, mod-mod-pow, high, low}
-use Rattle.stores.specs.FactSets.{digit}
-use Rattle.store_laws.specs.FactSetLaws.{zero_digit}
-use Rattle.ordered_search.specs.OrderedSearch.{fact_count}
+use Rattle.set_digits.specs.FactSets.{digit}
+use Rattle.set_digits.specs.FactSetLaws.{zero_digit}
+use Rattle.set_digits.specs.OrderedSearch.{fact_count}
 
 -- the lower digits do not depend on the higher ones
 digit_low : (m i s : ℕ) → i < m → digit (s % 2 ^ m) i ≡ digit s i

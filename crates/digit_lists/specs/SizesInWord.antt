@@ -1,13 +1,13 @@
 -- The sets of a word that have so many facts: the word's facts and the place's.
 use Rattle.std.specs.Prelude.{◌≡◌, refl, Bool, true, false, ◌&&◌, ℕ, ◌+◌, ◌*◌, ◌^◌, ◌≤◌, ◌<◌, min, eqb}
-use Rattle.std.proofs.Common.{sym, ap, ◌∙◌, arith, eqb-true, eq_eqb, ne_eqb}
+use Rattle.std.proofs.Common.{sym, ap, ◌∙◌, arith, eqb-true, eq-eqb, ne_eqb}
 use Rattle.std.specs.Int.Bits.{bit_and}
-use Rattle.list_laws.specs.TestLaws.{same_test}
-use Rattle.stores.specs.FactSets.{digit}
-use Rattle.store_laws.specs.FactSetLaws.{zero_digit, digit_and}
+use Rattle.set_digits.specs.TestLaws.{same_test}
+use Rattle.set_digits.specs.FactSets.{digit}
+use Rattle.set_digits.specs.FactSetLaws.{zero_digit, digit_and}
 use Rattle.place_sets.specs.DigitLaws.{digit_le}
-use Rattle.ordered_search.specs.OrderedSearch.{fact_count}
-use Rattle.search_laws.specs.SizeLaws.{count_most}
+use Rattle.set_digits.specs.OrderedSearch.{fact_count}
+use Rattle.set_digits.specs.SizeLaws.{count_most}
 use Rattle.set_digits.specs.SetDigits.{bit}
 use Rattle.digit_lists.specs.DigitLists.{PlacesOfSize, SizeInWord}
 use Rattle.digit_lists.specs.SizeSplit.{count_join, count_wider}
@@ -58,8 +58,8 @@ module _ (x i k : ℕ) (h : i < 2 ^ 11) where
       test : (p : ℕ) → p < 32 → eqb (fact_count 5 p) j ≡ eqb (fact_count 16 (32 * i + p)) k
       test p l =
           same_test (eqb (fact_count 5 p) j) (eqb (fact_count 16 (32 * i + p)) k)
-          (λ t. eq_eqb (fact_count 16 (32 * i + p)) k (omega (arith, count_in_word i p h l, eqb-true (fact_count 5 p) j t)))
-          (λ t. eq_eqb (fact_count 5 p) j (omega (arith, count_in_word i p h l, eqb-true (fact_count 16 (32 * i + p)) k t)))
+          (λ t. eq-eqb (fact_count 16 (32 * i + p)) k (omega (arith, count_in_word i p h l, eqb-true (fact_count 5 p) j t)))
+          (λ t. eq-eqb (fact_count 5 p) j (omega (arith, count_in_word i p h l, eqb-true (fact_count 16 (32 * i + p)) k t)))
 
       go : (t : Bool) (z : ℕ) → z ≤ 1 → eqb (min z (bit t)) 1 ≡ (t && eqb z 1)
       go true z s = let e : min z 1 ≡ z = omega arith in ap (λ (a : ℕ). eqb a 1) e

@@ -1,17 +1,17 @@
 -- The sets of a word one after the other, and the marked sets word by word.
 use Rattle.std.specs.Prelude.{◌≡◌, refl, Bool, true, false, cond, ◌&&◌, List, [], ◌∷◌, ◌++◌, ℕ, zero, suc, ◌+◌, ◌-◌, ◌*◌, ◌/◌, ◌%◌, ◌≤◌, ◌<◌, length, get_or}
 use Rattle.std.proofs.Math.Path.{sym, ap₂}
-use Rattle.std.proofs.Common.{ap, ◌∙◌, subst, append-nil, length-append, eqb-true, eq_eqb, ne_eqb}
+use Rattle.std.proofs.Common.{ap, ◌∙◌, subst, append-nil, length-append, eqb-true, eq-eqb, ne_eqb}
 use native.Mathlib.Omega.{arith}
 use Rattle.std.proofs.Math.Dec.{eqb}
 use Rattle.std.proofs.lemmas.Bool.{eqb-false}
-use Rattle.lists.specs.Lists.{select}
-use Rattle.stores.specs.FactSets.{digit}
-use Rattle.store_laws.specs.FactSetLaws.{zero_digit}
+use Rattle.place_sets.specs.Lists.{select}
+use Rattle.set_digits.specs.FactSets.{digit}
+use Rattle.set_digits.specs.FactSetLaws.{zero_digit}
 use Rattle.place_sets.specs.DigitLaws.{Lowest}
-use Rattle.moves.specs.Moves.{count_up}
-use Rattle.ordered_search.specs.OrderedSearch.{fact_count}
-use Rattle.search_laws.specs.SupersetLaws.{count_up_append, select_append}
+use Rattle.set_digits.specs.Moves.{count_up}
+use Rattle.set_digits.specs.OrderedSearch.{fact_count}
+use Rattle.set_digits.specs.SupersetLaws.{count_up_append, select_append}
 use Rattle.set_digits.specs.SetDigits.{mark}
 use Rattle.digit_lists.specs.DigitLists.{SizeInWord, word_sets, marked_of_size}
 use Rattle.digit_lists.specs.SizesInWord.{size_empty}
@@ -82,7 +82,7 @@ pub word_first : (i x t y : ℕ) → t < 32 → Lowest x t y → word_sets i x �
 unfolding word_sets
 word_first i x t y h o =
     selected_first (λ s. eqb (digit x (s % 32)) 1) (λ s. eqb (digit y (s % 32)) 1) (32 * i + t)
-    (ap (λ (p : ℕ). eqb (digit x p) 1) place ∙ eq_eqb _ _ o.one)
+    (ap (λ (p : ℕ). eqb (digit x p) 1) place ∙ eq-eqb _ _ o.one)
     (ap (λ (p : ℕ). eqb (digit y p) 1) place ∙ ne_eqb _ _ (λ (e : digit y t ≡ 1). omega (arith, o.gone)))
     32 (32 * i) (omega arith) (omega arith)
     (λ s l m. ne_eqb _ _ (λ (e : digit x (s % 32) ≡ 1). omega (arith, o.none (s % 32) (omega arith))))

@@ -1,8 +1,10 @@
 // How many facts a set has, and the marked sets with so many facts listed.
+#![tactic(auto)]
+
 ghost use Rattle.std.specs.Prelude.{◌≡◌, ◌++◌, ◌+◌, ◌*◌, ◌≤◌, ◌<◌, length, take, drop};
-ghost use Rattle.list_laws.specs.Frames.{SameOutside};
-ghost use Rattle.ordered_search.specs.OrderedSearch.{fact_count};
-ghost use Rattle.sheets.specs.SheetLimits.{max_facts};
+ghost use Rattle.set_digits.specs.Frames.{SameOutside};
+ghost use Rattle.set_digits.specs.OrderedSearch.{fact_count};
+ghost use Rattle.set_digits.specs.SheetLimits.{max_facts};
 ghost use Rattle.set_digits.specs.SetDigits.{words_of};
 ghost use Rattle.digit_lists.specs.DigitLists.{PlacesOfSize, FirstLayer, LesserSize, LeastSize, SizeInWord, word_sets, marked_of_size};
 

@@ -1,8 +1,8 @@
 -- Digits spread from sets to their subsets, fact by fact.
 use Rattle.std.specs.Prelude.{◌≡◌, List, ℕ, ◌+◌, ◌*◌, ◌/◌, ◌^◌, ◌<◌, get_or}
 use Rattle.std.specs.Int.Bits.{bit_or}
-use Rattle.list_laws.specs.Frames.{SameOutside}
-use Rattle.stores.specs.FactSets.{digit, Within}
+use Rattle.set_digits.specs.Frames.{SameOutside}
+use Rattle.set_digits.specs.FactSets.{digit, Within}
 use Rattle.set_digits.specs.SetDigits.{mark}
 
 -- a place of the word r has a digit exactly where one that includes it has a digit in x

@@ -6,11 +6,11 @@ use Rattle.std.proofs.Math.Nat.{add-mul, div-eq_of_lt}
 use native.Mathlib.Omega.{arith}
 use Rattle.std.proofs.Math.Pow.{high}
 use Rattle.std.specs.Int.Bits.{bit_or}
-use Rattle.list_laws.specs.TestLaws.{Tested, passes, fails, tested}
-use Rattle.list_laws.specs.Frames.{outside_same, outside_wider, outside_again}
-use Rattle.stores.specs.FactSets.{digit, Within}
-use Rattle.store_laws.specs.FactSetLaws.{digit_or, within_le}
-use Rattle.sheets.specs.SheetLimits.{max_facts}
+use Rattle.set_digits.specs.TestLaws.{Tested, passes, fails, tested}
+use Rattle.set_digits.specs.Frames.{outside_same, outside_wider, outside_again}
+use Rattle.set_digits.specs.FactSets.{digit, Within}
+use Rattle.set_digits.specs.FactSetLaws.{digit_or, within_le}
+use Rattle.set_digits.specs.SheetLimits.{max_facts}
 use Rattle.set_digits.specs.SetDigits.{words_of, mark}
 use Rattle.digit_spread.specs.DigitSpread.{SpreadDown, RunJoined, WordsJoined}
 use Rattle.digit_spread.specs.PassLaws.{Below, Passed, digit_le, below_next}

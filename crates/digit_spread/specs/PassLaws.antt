@@ -6,9 +6,9 @@ use Rattle.std.proofs.Math.Pow.{split}
 use Rattle.std.specs.Int.Bits.{bit_and, bit_or, and_step}
 use Rattle.std.proofs.lemmas.Nat.{and_block, and_comm, or_disjoint}
 use Rattle.std.proofs.lemmas.Bool.{eqb-false}
-use Rattle.list_laws.specs.TestLaws.{Tested, passes, fails, tested}
-use Rattle.stores.specs.FactSets.{digit, Within}
-use Rattle.store_laws.specs.FactSetLaws.{and_within, within_refl, within_trans, within_le, within_or_left, or_least}
+use Rattle.set_digits.specs.TestLaws.{Tested, passes, fails, tested}
+use Rattle.set_digits.specs.FactSets.{digit, Within}
+use Rattle.set_digits.specs.FactSetLaws.{and_within, within_refl, within_trans, within_le, within_or_left, or_least}
 
 -- of the sets below n, one has a digit in g exactly where a set that includes it, and has no other facts from fact k on, has a digit in f
 pub record Below (k n : ℕ) (f g : ℕ → ℕ) : Type 0 where

@@ -5,10 +5,10 @@ use Rattle.std.proofs.Math.Nat.{div-eq_of_lt}
 use Rattle.std.proofs.Math.Pow.{split, high, low}
 use Rattle.std.specs.Int.Bits.{bit_and, bit_or, and_self}
 use Rattle.std.proofs.lemmas.Nat.{and_block, and_mod}
-use Rattle.list_laws.specs.Frames.{SameOutside, outside_same}
-use Rattle.list_laws.specs.Tabulate.{tabulate, tabulate_at}
-use Rattle.stores.specs.FactSets.{digit, Within}
-use Rattle.store_laws.specs.FactSetLaws.{digit_and, digit_or, within_and, and_within}
+use Rattle.set_digits.specs.Frames.{SameOutside, outside_same}
+use Rattle.set_digits.specs.Tabulate.{tabulate, tabulate_at}
+use Rattle.set_digits.specs.FactSets.{digit, Within}
+use Rattle.set_digits.specs.FactSetLaws.{digit_and, digit_or, within_and, and_within}
 use Rattle.digit_spread.specs.DigitSpread.{WordSpread, SpreadDown}
 use Rattle.digit_spread.specs.PassLaws.{Below, Passed, digit_le, below_same, below_next}
 use Rattle.digit_spread.specs.StoredLaws.{stored_each, stored_same}

@@ -1,7 +1,9 @@
 // Digits of sets spread to subsets: a set is marked where one that includes it was.
+#![tactic(auto)]
+
 ghost use Rattle.std.specs.Prelude.{◌≡◌, ◌+◌, ◌*◌, ◌/◌, ◌≤◌, ◌<◌, ◌^◌, length};
 ghost use Rattle.std.specs.Int.Bits.{bit_and, bit_or};
-ghost use Rattle.sheets.specs.SheetLimits.{max_facts};
+ghost use Rattle.set_digits.specs.SheetLimits.{max_facts};
 ghost use Rattle.set_digits.specs.SetDigits.{words_of};
 ghost use Rattle.digit_spread.specs.DigitSpread.{WordSpread, SpreadDown, RunJoined, WordsJoined};
 

@@ -1,6 +1,8 @@
 // Tests of moves: which come below others, whether a kept dominating move still dominates, and where to look for another.
+#![tactic(auto)]
+
 ghost use Rattle.std.specs.Prelude.{◌≡◌, ◌&&◌, not, ◌+◌, ◌/◌, ◌%◌, ◌≤◌, length, eqb};
-ghost use Rattle.stores.specs.Stores.{strictly_below, includes};
+ghost use Rattle.work_layout.specs.Stores.{strictly_below, includes};
 ghost use Rattle.work_layout.specs.SetLayout.{member_at};
 ghost use Rattle.dominance_tests.specs.KeptNumbers.{KeptFits};
 ghost use Rattle.work_layout.specs.WorkLayout.{work_end, member_room};

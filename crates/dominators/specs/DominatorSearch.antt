@@ -1,15 +1,15 @@
 -- The first move that dominates another one looked for among those of its member, and what is said of the other then.
 use Rattle.std.specs.Prelude.{◌≡◌, refl, ◌⊎◌, Bool, true, false, not, ◌&&◌, List, ℕ, ◌+◌, ◌*◌, ◌/◌, ◌%◌, ◌≤◌, ◌<◌, length, get_or, set, eqb}
-use Rattle.std.proofs.Common.{sym, ap, ◌∙◌, subst, inl, inr, arith, get_or-set_same, get_or_set_other, eqb-true, eq_eqb, ne_eqb}
+use Rattle.std.proofs.Common.{sym, ap, ◌∙◌, subst, inl, inr, arith, get_or-set_same, get_or-set_other, eqb-true, eq-eqb, ne_eqb}
 use Rattle.std.proofs.lemmas.Bool.{eqb-false}
-use Rattle.list_laws.specs.TestLaws.{and_left, and_right, Tested, tested, passes, fails}
-use Rattle.list_laws.specs.Frames.{SameOutside, outside_same, outside_set}
-use Rattle.list_laws.specs.ListPlaces.{get_d_any}
-use Rattle.stores.specs.Stores.{strictly_below, includes}
-use Rattle.sheets.specs.Sheet.{Configuration, Sheet}
-use Rattle.moves.specs.Moves.{moves}
+use Rattle.packing.specs.TestLaws.{and_left, and_right, Tested, tested, passes, fails}
+use Rattle.packing.specs.Frames.{SameOutside, outside_same, outside_set}
+use Rattle.packing.specs.ListPlaces.{get_d_any}
+use Rattle.work_layout.specs.Stores.{strictly_below, includes}
+use Rattle.packing.specs.Sheet.{Configuration, Sheet}
+use Rattle.packing.specs.Moves.{moves}
 use Rattle.work_layout.specs.SetLayout.{member_at}
-use Rattle.comparison.specs.Rounds.{redundant}
+use Rattle.work_layout.specs.Rounds.{redundant}
 use Rattle.kept_classes.specs.DominatingMoves.{dominates, Passed, passed_one, passed_own, kept_redundant}
 use Rattle.dominators.specs.FoundMembers.{LiftedAt}
 use Rattle.dominators.specs.KeptMoves.{no_move_lem, move_of, Shows, MoveKept, MemberHeld, span_count, shows_dominates, lifted_shows, not_below_passed}
@@ -176,7 +176,7 @@ module _ (w : List ℕ) (n first j kept : ℕ) (t : ℕ) (is : kept ≡ get_or w
         kept_redundant sheet set numbers p (move_of sheet p j) (c / 65536) (omega (arith, span_count M, x.0))
         (ap (dominates sheet set numbers (move_of sheet p j))
         (get_d_any (moves sheet p) (c / 65536) (move_of sheet p j) no_move_lem (omega (arith, span_count M, x.0)))
-        ∙ shows_dominates M j (c / 65536) (c % 65536) jt (omega (arith, x.0)) x.1 ∙ eq_eqb _ _ e)
+        ∙ shows_dominates M j (c / 65536) (c % 65536) jt (omega (arith, x.0)) x.1 ∙ eq-eqb _ _ e)
 
     -- the place to look from has been passed
     looks_passed : (from : ℕ) → s ≡ false → MoveKept sheet set numbers p j kept
@@ -226,7 +226,7 @@ module _ (w : List ℕ) (n first j kept : ℕ) (t : ℕ) (is : kept ≡ get_or w
     outside = outside_same (dominators_at + first + j) (dominators_at + first + j + 1) w;
     fits = subst KeptFits is fits;
     stands = inr (
-      (λ z. some (eqb (kept % 65536) 65535) (eq_eqb (kept % 65536) 65535 (ap (λ (x : ℕ). x % 65536) is ∙ z))
+      (λ z. some (eqb (kept % 65536) 65535) (eq-eqb (kept % 65536) 65535 (ap (λ (x : ℕ). x % 65536) is ∙ z))
           (and_left (not (eqb (kept % 65536) 65535)) (eqb (class_in w (kept % 65536)) (class_in w t)) (sym still ∙ f))),
       ap (λ (x : ℕ). class_in w (x % 65536)) (sym is)
           ∙ eqb-true (class_in w (kept % 65536)) (class_in w t)
@@ -243,7 +243,7 @@ module _ (w : List ℕ) (n first j kept : ℕ) (t : ℕ) (is : kept ≡ get_or w
       by sheet set numbers p m r i total M jt K =
           let b : (not (eqb (kept % 65536) 65535) && eqb (class_in w (kept % 65536)) (class_in w t)) ≡ true = sym still ∙ f in
           shown_redundant M jt kept (subst (MoveKept sheet set numbers p j) (sym is) K)
-          (λ z. some (eqb (kept % 65536) 65535) (eq_eqb (kept % 65536) 65535 z)
+          (λ z. some (eqb (kept % 65536) 65535) (eq-eqb (kept % 65536) 65535 z)
           (and_left (not (eqb (kept % 65536) 65535)) (eqb (class_in w (kept % 65536)) (class_in w t)) b))
           (eqb-true (class_in w (kept % 65536)) (class_in w t)
           (and_right (not (eqb (kept % 65536) 65535)) (eqb (class_in w (kept % 65536)) (class_in w t)) b) ∙ ap (class_in w) target)
@@ -271,10 +271,10 @@ module _ (w : List ℕ) (n first j kept : ℕ) (t : ℕ) (is : kept ≡ get_or w
       u = set w (dominators_at + first + j) next
 
       class : (i : ℕ) → class_in u i ≡ class_in w i
-      class i = get_or_set_other w (dominators_at + first + j) (classes_at + i) next 0 (λ z. omega arith)
+      class i = get_or-set_other w (dominators_at + first + j) (classes_at + i) next 0 (λ z. omega arith)
 
       goal : target_at u first j ≡ target_at w first j
-      goal = ap (λ (x : ℕ). x % 65536) (get_or_set_other w (dominators_at + first + j) (moves_at + first + j) next 0 (λ z. omega arith))
+      goal = ap (λ (x : ℕ). x % 65536) (get_or-set_other w (dominators_at + first + j) (moves_at + first + j) next 0 (λ z. omega arith))
 
       stands : kept_at u first j ≡ next
           → (next ≡ j * 65536 + 65535) ⊎ ((next % 65536 ≡ 65535 → ⊥) × (class_in w (next % 65536) ≡ class_in w (target_at w first j)))

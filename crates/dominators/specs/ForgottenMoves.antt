@@ -1,10 +1,10 @@
 -- The kept moves forgotten: nothing is known then.
 use Rattle.std.specs.Prelude.{◌≡◌, List, ℕ, ◌+◌, ◌<◌, length, get_or, set, eqb}
-use Rattle.std.proofs.Common.{ap, ◌∙◌, arith, get_or-set_same, get_or_set_other, eqb-true}
+use Rattle.std.proofs.Common.{ap, ◌∙◌, arith, get_or-set_same, get_or-set_other, eqb-true}
 use Rattle.std.proofs.lemmas.Bool.{eqb-false}
-use Rattle.list_laws.specs.TestLaws.{Tested, tested, passes, fails}
-use Rattle.list_laws.specs.Frames.{SameOutside, outside_same, outside_set, outside_again, outside_wider}
-use Rattle.sheets.specs.Sheet.{Configuration, Sheet}
+use Rattle.packing.specs.TestLaws.{Tested, tested, passes, fails}
+use Rattle.packing.specs.Frames.{SameOutside, outside_same, outside_set, outside_again, outside_wider}
+use Rattle.packing.specs.Sheet.{Configuration, Sheet}
 use Rattle.work_layout.specs.SetLayout.{SetHeld}
 use Rattle.kept_classes.specs.RoundLayout.{same_set_low, held_same}
 use Rattle.dominators.specs.KeptMoves.{DominatorsKept, dominators_none}
@@ -32,7 +32,7 @@ forgotten_next v m w f h = record {
         ∙ get_or-set_same w (dominators_at + m) 65535 0 (omega (arith, f.outside.long))
     go k l (fails e) =
         let d : k ≡ m → ⊥ = eqb-false k m e in
-        get_or_set_other w (dominators_at + m) (dominators_at + k) 65535 0 (λ z. d (omega arith)) ∙ f.none k (omega arith)
+        get_or-set_other w (dominators_at + m) (dominators_at + k) 65535 0 (λ z. d (omega arith)) ∙ f.none k (omega arith)
 
 -- the set stands as before, and what is kept is right in any classes
 pub forgotten_held : (sheet : Sheet) (set : List Configuration) (v w : List ℕ) (n m : ℕ) (numbers : List ℕ) → SetHeld sheet set v n m

@@ -1,14 +1,14 @@
 -- A member of the set in the work slice found by its numbers, by halving.
 use Rattle.std.specs.Prelude.{◌≡◌, true, false, ℕ, ◌+◌, ◌*◌, ◌/◌, ◌%◌, ◌≤◌, ◌<◌, get_or, eqb}
-use Rattle.std.proofs.Common.{sym, ap, ◌∙◌, subst, arith, eq_eqb, ne_eqb}
+use Rattle.std.proofs.Common.{sym, ap, ◌∙◌, subst, arith, eq-eqb, ne_eqb}
 use mathlib.Core.List.{List, Memᴰ}
-use Rattle.list_laws.specs.TestLaws.{true_false, Tested, tested, passes, fails}
-use Rattle.list_laws.specs.Halving.{Halving, halving_first, halving_upper, halving_lower, halving_last, halving_there}
-use Rattle.lists.specs.Lists.{Ascends}
-use Rattle.list_laws.specs.TabulateLaws.{tabulate_mem, ascends_at}
-use Rattle.sheets.specs.Sheet.{Configuration, Sheet}
-use Rattle.moves.specs.Orders.{configuration_before}
-use Rattle.move_laws.specs.OrderLaws.{configuration_order}
+use Rattle.packing.specs.TestLaws.{true_false, Tested, tested, passes, fails}
+use Rattle.packing.specs.Halving.{Halving, halving_first, halving_upper, halving_lower, halving_last, halving_there}
+use Rattle.packing.specs.Lists.{Ascends}
+use Rattle.packing.specs.TabulateLaws.{tabulate_mem, ascends_at}
+use Rattle.packing.specs.Sheet.{Configuration, Sheet}
+use Rattle.packing.specs.Orders.{configuration_before}
+use Rattle.kept_classes.specs.OrderLaws.{configuration_order}
 use Rattle.packing.specs.declared.Numbers.{Numbers}
 use Rattle.packing.specs.Packing.{stands_for, PackedIn, Fits, number0, number1, number2}
 use Rattle.packing.specs.Comparing.{compared}
@@ -90,7 +90,7 @@ module _ (w : List ℕ) (n : ℕ) (x : Numbers) where
     -- it stands before x
     pub halved_upper : r ≡ 0 → Halved w n x (mid + 1) high
     halved_upper z =
-        halving_upper b mid l h (λ o p. sym (side o p) ∙ eq_eqb r 0 z)
+        halving_upper b mid l h (λ o p. sym (side o p) ∙ eq-eqb r 0 z)
         (λ j _ k t o p.
         configuration_order.transitive (member_at w j) (member_at w mid) (stands_for x)
         (ascends_at configuration_order (member_at w) n o.ascends j mid k (omega (arith, b.ends.2))) (t o p))

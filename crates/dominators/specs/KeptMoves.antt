@@ -3,18 +3,18 @@
 use Rattle.std.specs.Prelude.{◌≡◌, refl, Bool, true, false, not, ◌&&◌, ℕ, ◌+◌, ◌/◌, ◌%◌, ◌≤◌, ◌<◌, length, get_or, eqb}
 use Rattle.std.proofs.Common.{sym, ap, ap₂, ◌∙◌, subst, arith}
 use mathlib.Core.List.{List, [], Memᴰ}
-use Rattle.list_laws.specs.TestLaws.{true_false, and_left, and_right, Tested, tested, passes, fails}
-use Rattle.lists.specs.Lists.{Ascends}
-use Rattle.list_laws.specs.ListPlaces.{get_d_in}
-use Rattle.stores.specs.FactSets.{Within}
-use Rattle.stores.specs.Stores.{strictly_below, includes}
-use Rattle.store_laws.specs.StoreLaws.{includes_within, within_includes}
-use Rattle.sheets.specs.Sheet.{Configuration, Sheet}
-use Rattle.sheets.specs.WellFormed.{WellFormed}
-use Rattle.moves.specs.Orders.{Move, configuration_before}
-use Rattle.moves.specs.Moves.{moves}
+use Rattle.packing.specs.TestLaws.{true_false, and_left, and_right, Tested, tested, passes, fails}
+use Rattle.packing.specs.Lists.{Ascends}
+use Rattle.packing.specs.ListPlaces.{get_d_in}
+use Rattle.packing.specs.FactSets.{Within}
+use Rattle.work_layout.specs.Stores.{strictly_below, includes}
+use Rattle.kept_classes.specs.StoreLaws.{includes_within, within_includes}
+use Rattle.packing.specs.Sheet.{Configuration, Sheet}
+use Rattle.packing.specs.WellFormed.{WellFormed}
+use Rattle.packing.specs.Orders.{Move, configuration_before}
+use Rattle.packing.specs.Moves.{moves}
 use Rattle.work_layout.specs.SetLayout.{member_at, first_move, move_total, move_numbers_at, move_from, SetHeld}
-use Rattle.comparison_laws.specs.RoundLaws.{ClosedList, Sharing}
+use Rattle.kept_classes.specs.RoundLaws.{ClosedList, Sharing}
 use Rattle.kept_classes.specs.DominatingMoves.{dominates, Passed, passed_none, passed_later}
 use Rattle.kept_classes.specs.MemberLines.{packed_line, line_of}
 use Rattle.kept_classes.specs.RoundLayout.{SameSet, held_member_same, held_first_same, held_total_same, held_in, held_at, held_count_lem, number_in, moves_count, move_at, target_class, lifted_target, dominates_label, dominates_outside, lifted_in, dominates_held}

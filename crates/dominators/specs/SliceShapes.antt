@@ -2,8 +2,8 @@
 -- that stores kept moves and lines.
 use Rattle.std.specs.Prelude.{◌≡◌, refl, ◌⊎◌, List, ℕ, ◌+◌, ◌*◌, ◌/◌, ◌%◌, ◌≤◌, ◌<◌, length, get_or}
 use Rattle.std.proofs.Common.{sym, ap, ◌∙◌, inl, inr, arith}
-use Rattle.list_laws.specs.Tabulate.{tabulate_same}
-use Rattle.sheets.specs.Sheet.{Configuration, Sheet}
+use Rattle.packing.specs.Tabulate.{tabulate_same}
+use Rattle.packing.specs.Sheet.{Configuration, Sheet}
 use Rattle.work_layout.specs.SetLayout.{first_move, move_total, SetHeld}
 use Rattle.kept_classes.specs.RoundLayout.{SameSet, held_same, held_member_same, held_first_same, held_total_same, number_in, held_count_lem}
 use Rattle.dominance_tests.specs.KeptNumbers.{KeptFits}

@@ -1,5 +1,7 @@
 // The dominating move that is kept for each move from round to round: members found by their numbers, and whether a move is
 // irredundant in the present classes. Each pair of moves is tried once in all rounds.
+#![tactic(auto)]
+
 ghost use Rattle.std.specs.Prelude.{◌+◌, ◌%◌, ◌≤◌, ◌<◌, length};
 ghost use Rattle.dominators.specs.FoundMembers.{FoundAt, LiftedAt};
 ghost use Rattle.dominators.specs.SliceShapes.{SpanFits};

@@ -1,24 +1,24 @@
 -- The set while it is explored: members by discovery, those explored with their moves in their places.
 use Rattle.std.specs.Prelude.{◌≡◌, ◌⊎◌, ◌↔◌, true, ℕ, ◌+◌, ◌≤◌, ◌<◌, length, get_or}
 use mathlib.Core.List.{List, Memᴰ}
-use Rattle.lists.specs.Lists.{Distinct}
-use Rattle.stores.specs.Stores.{strictly_below}
-use Rattle.sheets.specs.Sheet.{Configuration}
-use Rattle.moves.specs.Orders.{Move}
-use Rattle.moves.specs.Moves.{moves, add}
-use Rattle.comparison.specs.Promise.{MemberMove}
-use Rattle.label_search.specs.AskLabels.{TableOf}
+use Rattle.work_layout.specs.Lists.{Distinct}
+use Rattle.work_layout.specs.Stores.{strictly_below}
+use Rattle.sheet_types.specs.Sheet.{Configuration}
+use Rattle.member_table.specs.Orders.{Move}
+use Rattle.member_table.specs.Moves.{moves, add}
+use Rattle.work_layout.specs.Promise.{MemberMove}
+use Rattle.ask_labels.specs.AskLabels.{TableOf}
 use Rattle.member_table.specs.MemberTable.{member_in, id_in}
 use Rattle.collected_moves.specs.declared.Running.{Running}
 use Rattle.collected_moves.specs.CollectedMoves.{Collecting, member_part, members_of}
-use Rattle.set_growth.specs.SetGrowth.{Growth, InSet}
+use Rattle.walk_state.specs.SetGrowth.{Growth, InSet}
 use Rattle.walk_state.specs.declared.Basis.{Basis}
 use Rattle.walk_state.specs.WalkState.{MemberFits}
 use Rattle.set_order.specs.OrderedSet.{span_first, span_total, span_moves, SpanFits}
 use Rattle.unexplored_members.specs.UnexploredMembers.{IsExplored}
 use Rattle.exploration.specs.declared.Plan.{Plan}
 use Rattle.work_layout.specs.WorkLayout.{spans_at, member_room}
-use Rattle.sheets.specs.SheetLimits.{max_facts}
+use Rattle.sheet_types.specs.SheetLimits.{max_facts}
 
 -- what stays the same for a member with this store, whose moves begin here
 abbrev pub basis_of : Plan → ℕ → ℕ → Basis

@@ -1,13 +1,13 @@
 -- Members explored one after another: what holds between two of them, at the end, and where a cap is passed.
 use Rattle.std.specs.Prelude.{◌≡◌, refl, Bool, true, false, cond, List, ℕ, eqb}
 use Rattle.std.proofs.Common.{sym, subst, arith, eqb-true}
-use Rattle.list_laws.specs.Frames.{SameOutside, outside_same, outside_again}
-use Rattle.sheets.specs.Sheet.{Node}
+use Rattle.work_layout.specs.Frames.{SameOutside, outside_same, outside_again}
+use Rattle.sheet_types.specs.Sheet.{Node}
 use Rattle.ask_labels.specs.declared.Shelf.{Shelf}
 use Rattle.ask_labels.specs.LabelShelf.{Shelved, no_entries}
 use Rattle.ask_labels.specs.LabelShelfLaws.{shelved_none}
 use Rattle.collected_moves.specs.declared.Running.{Running}
-use Rattle.set_growth.specs.SetGrowth.{Growth}
+use Rattle.walk_state.specs.SetGrowth.{Growth}
 use Rattle.exploration.specs.declared.Plan.{Plan}
 use Rattle.unexplored_members.specs.UnexploredMembers.{NextPlace}
 use Rattle.exploration.specs.Exploration.{Exploring, ExploredFor}

@@ -1,9 +1,9 @@
 -- What the steps of exploring ask and promise.
 use Rattle.std.specs.Prelude.{◌≡◌, List, ℕ, ◌+◌, ◌*◌, ◌-◌, ◌<◌, get_or}
-use Rattle.list_laws.specs.Frames.{SameOutside}
-use Rattle.list_laws.specs.PlacesPassed.{FirstPlace}
-use Rattle.sheets.specs.Sheet.{Node}
-use Rattle.comparison.specs.Promise.{PassesLimit}
+use Rattle.work_layout.specs.Frames.{SameOutside}
+use Rattle.collected_moves.specs.PlacesPassed.{FirstPlace}
+use Rattle.sheet_types.specs.Sheet.{Node}
+use Rattle.work_layout.specs.Promise.{PassesLimit}
 use Rattle.ask_labels.specs.declared.Shelf.{Shelf}
 use Rattle.ask_labels.specs.LabelShelf.{Shelved}
 use Rattle.member_table.specs.MemberTable.{member_in, id_in}
@@ -11,7 +11,7 @@ use Rattle.collected_moves.specs.declared.Running.{Running}
 use Rattle.collected_moves.specs.declared.Noted.{Noted}
 use Rattle.collected_moves.specs.declared.Noted.TheVariants as noted
 use Rattle.collected_moves.specs.CollectedMoves.{member_part}
-use Rattle.set_growth.specs.SetGrowth.{Growth}
+use Rattle.walk_state.specs.SetGrowth.{Growth}
 use Rattle.walk_state.specs.declared.Walked.{Walked}
 use Rattle.walk_state.specs.declared.Walked.TheVariants as walked
 use Rattle.walk_state.specs.WalkState.{OnSheet}

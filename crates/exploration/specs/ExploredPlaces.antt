@@ -6,7 +6,7 @@ use Rattle.member_table.specs.MemberLaws.{id_placed}
 use Rattle.collected_moves.specs.declared.Running.{Running}
 use Rattle.collected_moves.specs.CollectedMoves.{member_part}
 use Rattle.collected_moves.specs.CollectedLaws.{collecting_empty}
-use Rattle.set_growth.specs.SetGrowth.{Growth}
+use Rattle.walk_state.specs.SetGrowth.{Growth}
 use Rattle.exploration.specs.declared.Plan.{Plan}
 use Rattle.unexplored_members.specs.UnexploredMembers.{IsExplored, NextPlace}
 use Rattle.exploration.specs.Exploration.{Exploring, ExploredFor}

@@ -1,3 +1,12 @@
+pub use Rattle.ask_labels.specs.LabelShelfLaws
+pub use Rattle.walk_state.specs.NodeTables
+pub use Rattle.member_table.specs.OpeningLaws
+pub use Rattle.member_table.specs.OrderLaws
+pub use Rattle.member_table.specs.Ranks
+pub use Rattle.member_table.specs.ReadingLaws
+pub use Rattle.work_layout.specs.Stores
+pub use Rattle.unexplored_members.specs.UnexploredMembers
+pub use Rattle.walk_state.specs.WalkState
 pub mod Exploration
 pub mod ExplorationSteps
 pub mod SpanLaws

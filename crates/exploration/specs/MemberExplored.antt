@@ -6,16 +6,16 @@ use mathlib.Core.List.Memᴰ
 use mathlib.Core.List.{List, ◌++◌, map, Memᴰ}
 use Rattle.std.proofs.Math.ListN.{get_or, length-map}
 use Rattle.std.proofs.lemmas.Bool.{eqb-false}
-use Rattle.lists.specs.Lists.{Distinct}
-use Rattle.list_laws.specs.Counting.{distinct_append, distinct_map}
-use Rattle.list_laws.specs.Frames.{SameOutside, outside_wider, outside_again}
-use Rattle.list_laws.specs.Members.{mem_map, map_mem}
-use Rattle.list_laws.specs.TabulateLaws.{mem_tabulate}
-use Rattle.sheets.specs.Sheet.{Node, Configuration}
-use Rattle.moves.specs.Orders.{Move}
-use Rattle.moves.specs.Moves.{moves, add}
-use Rattle.comparison.specs.Promise.{MemberMove}
-use Rattle.closure_table.specs.ClosureTable.{closures_agree}
+use Rattle.work_layout.specs.Lists.{Distinct}
+use Rattle.set_order.specs.Counting.{distinct_append, distinct_map}
+use Rattle.work_layout.specs.Frames.{SameOutside, outside_wider, outside_again}
+use Rattle.set_order.specs.Members.{mem_map, map_mem}
+use Rattle.collected_moves.specs.TabulateLaws.{mem_tabulate}
+use Rattle.sheet_types.specs.Sheet.{Node, Configuration}
+use Rattle.member_table.specs.Orders.{Move}
+use Rattle.member_table.specs.Moves.{moves, add}
+use Rattle.work_layout.specs.Promise.{MemberMove}
+use Rattle.ask_labels.specs.ClosureTable.{closures_agree}
 use Rattle.ask_labels.specs.declared.Shelf.{Shelf}
 use Rattle.ask_labels.specs.LabelShelf.{Shelved}
 use Rattle.ask_labels.specs.LabelShelfLaws.{sets_few, shelved_agree}
@@ -27,8 +27,8 @@ use Rattle.collected_moves.specs.declared.Noted.{Noted}
 use Rattle.collected_moves.specs.declared.Noted.TheVariants as noted
 use Rattle.collected_moves.specs.CollectedMoves.{Grown, member_part, members_of, moves_of}
 use Rattle.collected_moves.specs.CollectedLaws.{moves_of_none, grown_trans}
-use Rattle.set_growth.specs.SetGrowth.{Growth, InSet, InHand, Gathered}
-use Rattle.set_growth.specs.SetGrowthLaws.{grown_members, moves_distinct, moves_length}
+use Rattle.walk_state.specs.SetGrowth.{Growth, InSet, InHand, Gathered}
+use Rattle.walk_state.specs.SetGrowthLaws.{grown_members, moves_distinct, moves_length}
 use Rattle.walk_state.specs.declared.Basis.{Basis}
 use Rattle.walk_state.specs.declared.Walk.{Walk}
 use Rattle.walk_state.specs.declared.Walked.{Walked}

@@ -1,22 +1,22 @@
 -- The spans after a member's moves were collected and its span stored: its own has the moves collected, the others are the same.
 use Rattle.std.specs.Prelude.{◌≡◌, refl, ◌⊎◌, Bool, true, false, ℕ, ◌+◌, ◌-◌, ◌/◌, ◌%◌, ◌≤◌, ◌<◌, length, get_or, set, eqb, ltb}
-use Rattle.std.proofs.Common.{sym, ap, ap₂, ◌∙◌, subst, inl, inr, ⊎_elim, arith, length-set, get_or-set_same, get_or_set_other, eqb-true, ltb-true, ltb-false}
+use Rattle.std.proofs.Common.{sym, ap, ap₂, ◌∙◌, subst, inl, inr, ⊎_elim, arith, length-set, get_or-set_same, get_or-set_other, eqb-true, ltb-true, ltb-false}
 use mathlib.Core.List.{List, [], ◌∷◌, map, Memᴰ}
 use Rattle.std.proofs.lemmas.Bool.{eqb-false}
-use Rattle.lists.specs.Lists.{Ascends}
-use Rattle.list_laws.specs.Frames.{SameOutside, outside_set, outside_wider, outside_again}
-use Rattle.sheets.specs.Sheet.{Configuration}
-use Rattle.list_laws.specs.AscendingLaws.{number_order}
-use Rattle.number_lists.specs.NumberLists.{numbers_in}
-use Rattle.number_lists.specs.NumberLaws.{numbers_same}
-use Rattle.label_search.specs.LabelScanLaws.{table_agree}
+use Rattle.work_layout.specs.Lists.{Ascends}
+use Rattle.work_layout.specs.Frames.{SameOutside, outside_set, outside_wider, outside_again}
+use Rattle.sheet_types.specs.Sheet.{Configuration}
+use Rattle.sheet_types.specs.AscendingLaws.{number_order}
+use Rattle.work_layout.specs.NumberLists.{numbers_in}
+use Rattle.collected_moves.specs.NumberLaws.{numbers_same}
+use Rattle.ask_labels.specs.LabelScanLaws.{table_agree}
 use Rattle.ask_labels.specs.LabelShelfLaws.{sets_few}
 use Rattle.member_table.specs.MemberTable.{member_in, id_in, members_in, Kept}
 use Rattle.member_table.specs.TableInPart.{part_outside}
 use Rattle.collected_moves.specs.declared.Running.{Running}
 use Rattle.collected_moves.specs.CollectedMoves.{Grown, member_part, members_of, moves_of, move_in_lem, move_numbers}
 use Rattle.collected_moves.specs.CollectedLaws.{collecting_empty, move_same, move_of}
-use Rattle.set_growth.specs.SetGrowthLaws.{grown_member}
+use Rattle.walk_state.specs.SetGrowthLaws.{grown_member}
 use Rattle.walk_state.specs.WalkState.{MemberFits}
 use Rattle.third_rule.specs.ThirdRule.{Standing}
 use Rattle.set_order.specs.OrderedSet.{span_first, span_total, span_numbers, span_moves, SpanFits}
@@ -63,7 +63,7 @@ module _ (plan : Plan) (v : List ℕ) (s : Running) (id : ℕ) (ex : Exploring v
   stored = get_or-set_same z (spans_at + id) (span_of s.moves u.moves) 0 (omega (arith, few.2, standing.collecting.long))
 
   besides : (i : ℕ) → (i ≡ spans_at + id → ⊥) → get_or spanned i 0 ≡ get_or z i 0
-  besides i h = get_or_set_other z (spans_at + id) i (span_of s.moves u.moves) 0 h
+  besides i h = get_or-set_other z (spans_at + id) i (span_of s.moves u.moves) 0 h
 
   earlier : (i : ℕ) → i < moves_at + s.moves → (i ≡ spans_at + id → ⊥) → get_or spanned i 0 ≡ get_or v i 0
   earlier i h k = besides i k ∙ grown.outside.at i (inl h)

@@ -1,7 +1,9 @@
 // The set explored: the least unexplored member next, until none is left. Stores only grow along moves and additions, so
 // members of one store come one after the other, and labels are worked out once for each store and asked set.
+#![tactic(auto)]
+
 ghost use Rattle.std.specs.Prelude.{◌≡◌, ◌+◌, ◌<◌, get_or};
-ghost use Rattle.sheet_laws.specs.Ranks.{rank_of};
+ghost use Rattle.member_table.specs.Ranks.{rank_of};
 ghost use Rattle.sheet_types.specs.NodeTable.{nodes_of};
 ghost use Rattle.sheet_types.specs.HeldSheet.{nodes_in};
 ghost use Rattle.ask_labels.specs.LabelShelf.{Shelved};

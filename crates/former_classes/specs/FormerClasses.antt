@@ -1,9 +1,9 @@
 -- Classes as they were before the last round, while there were `count` of them.
 use Rattle.std.specs.Prelude.{◌≡◌, refl, Bool, cond, List, ℕ, ◌+◌, ◌/◌, ◌≤◌, ◌<◌, length, set, eqb, ltb}
-use Rattle.std.proofs.Common.{sym, ap, ◌∙◌, inr, arith, get_or-set_same, get_or_set_other, eqb-true, lt-ltb, le-ltb}
+use Rattle.std.proofs.Common.{sym, ap, ◌∙◌, inr, arith, get_or-set_same, get_or-set_other, eqb-true, lt-ltb, le-ltb}
 use Rattle.std.proofs.lemmas.Bool.{eqb-false}
-use Rattle.list_laws.specs.TestLaws.{Tested, tested, passes, fails}
-use Rattle.list_laws.specs.Frames.{SameOutside, outside_same, outside_set, outside_again}
+use Rattle.work_layout.specs.TestLaws.{Tested, tested, passes, fails}
+use Rattle.work_layout.specs.Frames.{SameOutside, outside_same, outside_set, outside_again}
 use Rattle.work_layout.specs.WorkLayout.{work_end, classes_at, births_at, member_room}
 use Rattle.work_layout.specs.ClassLayout.{class_in, from_in_lem}
 
@@ -39,7 +39,7 @@ module _ {v : List ℕ} {count k : ℕ} {w : List ℕ} (R : Restored v count k w
       record {
         only = outside_again R.only (outside_set classes_at births_at w (classes_at + k) former (omega arith) (omega arith));
         done = λ i l. done i l (tested (eqb i k));
-        left = λ i h l. get_or_set_other w (classes_at + k) (classes_at + i) former 0 (λ z. omega arith) ∙ R.left i (omega arith) l;
+        left = λ i h l. get_or-set_other w (classes_at + k) (classes_at + i) former 0 (λ z. omega arith) ∙ R.left i (omega arith) l;
       }
     where
       is : former ≡ former_in v count (class_in v k)
@@ -51,5 +51,5 @@ module _ {v : List ℕ} {count k : ℕ} {w : List ℕ} (R : Restored v count k w
           ap (class_in (set w (classes_at + k) former)) z
           ∙ get_or-set_same w (classes_at + k) former 0 (omega (arith, R.only.long)) ∙ is ∙ ap (λ (j : ℕ). former_in v count (class_in v j)) (sym z)
       done i l (fails e) =
-          get_or_set_other w (classes_at + k) (classes_at + i) former 0 (λ z. eqb-false i k e (omega arith))
+          get_or-set_other w (classes_at + k) (classes_at + i) former 0 (λ z. eqb-false i k e (omega arith))
           ∙ R.done i (omega (arith, eqb-false i k e))

@@ -1,4 +1,6 @@
 // The classes of the round before the last: a class that the last round split off gets the number of the class that it came from.
+#![tactic(auto)]
+
 ghost use Rattle.std.specs.Prelude.{◌≡◌, ℕ, ◌≤◌, ◌<◌, length};
 ghost use Rattle.work_layout.specs.WorkLayout.{work_end, member_room};
 ghost use Rattle.work_layout.specs.ClassLayout.{class_in};

@@ -1,21 +1,21 @@
 -- What finding the set of a comparison asks and promises.
 use Rattle.std.specs.Prelude.{◌≡◌, true, List, ℕ, ◌≤◌, ◌<◌, get_or}
-use Rattle.list_laws.specs.Frames.{SameOutside}
-use Rattle.sheets.specs.Sheet as spec
-use Rattle.sheets.specs.WellFormed.{OfSheet}
-use Rattle.comparison.specs.CallLimits.{Limits}
-use Rattle.comparison.specs.Set.{explored, fits}
-use Rattle.comparison.specs.Promise.{PassesLimit}
+use Rattle.set_order.specs.Frames.{SameOutside}
+use Rattle.sheet_types.specs.Sheet as spec
+use Rattle.sheet_types.specs.WellFormed.{OfSheet}
+use Rattle.seed_members.specs.CallLimits.{Limits}
+use Rattle.seed_members.specs.Set.{explored, fits}
+use Rattle.seed_members.specs.Promise.{PassesLimit}
 use Rattle.sheet_types.specs.declared.Configuration.{Configuration}
 use Rattle.sheet_types.specs.declared.Sheet.{Sheet}
 use Rattle.sheet_types.specs.HeldSheet.{configuration, no_configuration, sheet_of}
-use Rattle.work_layout.specs.SetLayout.{SetHeld}
+use Rattle.seed_members.specs.SetLayout.{SetHeld}
 use Rattle.collected_moves.specs.declared.Caps.{Caps}
 use Rattle.exploration.specs.declared.Plan.{Plan}
 use Rattle.found_set.specs.declared.Found.{Found}
 use Rattle.found_set.specs.declared.Found.TheVariants as found
-use Rattle.work_layout.specs.WorkLayout.{work_end}
-use Rattle.sheets.specs.SheetLimits.{max_starts}
+use Rattle.collected_moves.specs.WorkLayout.{work_end}
+use Rattle.sheet_types.specs.SheetLimits.{max_starts}
 
 -- the limits that the caps are
 abbrev pub limits_of : Caps → Limits

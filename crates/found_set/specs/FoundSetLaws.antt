@@ -1,10 +1,10 @@
 -- From the table of closures, cleared spans and the seeds to the set: whole and in order, or past a limit.
 use Rattle.std.specs.Prelude.{◌≡◌, List, ℕ, ◌^◌, ◌≤◌, length, drop}
 use Rattle.std.proofs.Common.{subst, arith}
-use Rattle.list_laws.specs.Frames.{outside_wider, outside_again}
-use Rattle.sheets.specs.WellFormed.{Admissible}
-use Rattle.closure_table.specs.ClosureTable.{Closures}
-use Rattle.set_closure.specs.RuleTable.{rules_in}
+use Rattle.set_order.specs.Frames.{outside_wider, outside_again}
+use Rattle.sheet_types.specs.WellFormed.{Admissible}
+use Rattle.sheet_types.specs.ClosureTable.{Closures}
+use Rattle.sheet_types.specs.RuleTable.{rules_in}
 use Rattle.sheet_types.specs.declared.Configuration.{Configuration}
 use Rattle.sheet_types.specs.declared.Sheet.{Sheet}
 use Rattle.sheet_types.specs.NodeTable.{nodes_of}
@@ -16,12 +16,12 @@ use Rattle.collected_moves.specs.declared.Noted.TheVariants as noted
 use Rattle.set_order.specs.SetOrderSteps.{ArrangedAll}
 use Rattle.exploration.specs.declared.Plan.{Plan}
 use Rattle.exploration.specs.ExplorationSteps.{ExploredOn, ExploredOver, SetExplored}
-use Rattle.sheets.specs.Sheet.{Node}
+use Rattle.sheet_types.specs.Sheet.{Node}
 use Rattle.seed_members.specs.Seeds.{Cleared, SeededOn, SeededOver}
 use Rattle.found_set.specs.FoundSet.{limits_of, plan_of, SeedsFit, SetWhole, SetPasses}
 use Rattle.found_set.specs.LentSheetLaws.{growth_of, growth_sound, filled_outside, begins_on, begins_for, begins_outside}
 use Rattle.found_set.specs.WholeSetLaws.{all_discovered, set_fits, set_held}
-use Rattle.work_layout.specs.WorkLayout.{work_end}
+use Rattle.collected_moves.specs.WorkLayout.{work_end}
 
 module _ (sheet : Sheet) (seeds : List Configuration) (k : ℕ) (caps : Caps) (fine : Admissible (sheet_of sheet)) (fit : SeedsFit sheet seeds k)
     (v a b : List ℕ) (long : work_end ≤ length v) (behind : drop (2 ^ sheet.facts) a ≡ drop (2 ^ sheet.facts) v) (cleared : Cleared a b) where

@@ -3,38 +3,38 @@ use Rattle.std.specs.Prelude.{◌≡◌, refl, ℕ, ◌+◌, ◌^◌, ◌≤◌,
 use Rattle.std.proofs.Common.{sym, ap, ◌∙◌, subst, inl, arith, length-drop}
 use mathlib.Core.List.Memᴰ
 use mathlib.Core.List.{List, [], ◌∷◌, Memᴰ}
-use Rattle.lists.specs.Lists.{no_elements}
-use Rattle.list_laws.specs.Frames.{SameOutside, outside_of_ends, outside_wider, outside_again}
-use Rattle.list_laws.specs.Tabulate.{tabulate_length}
-use Rattle.list_laws.specs.TabulateLaws.{tabulate_mem}
-use Rattle.stores.specs.Stores.{Constraint}
-use Rattle.sheets.specs.Sheet.{tell, ask, node_of}
-use Rattle.sheets.specs.Sheet as spec
-use Rattle.sheets.specs.WellFormed.{OfSheet, NodeFits, Admissible}
-use Rattle.refinement.specs.Refinement.{seed}
-use Rattle.comparison_laws.specs.SheetMoves.{conclusions_fit}
-use Rattle.closure_table.specs.ClosureTable.{Closures, closures_agree}
-use Rattle.set_closure.specs.RuleTable.{rules_in, rule_in}
+use Rattle.sheet_types.specs.Lists.{no_elements}
+use Rattle.set_order.specs.Frames.{SameOutside, outside_of_ends, outside_wider, outside_again}
+use Rattle.collected_moves.specs.Tabulate.{tabulate_length}
+use Rattle.collected_moves.specs.TabulateLaws.{tabulate_mem}
+use Rattle.exploration.specs.Stores.{Constraint}
+use Rattle.sheet_types.specs.Sheet.{tell, ask, node_of}
+use Rattle.sheet_types.specs.Sheet as spec
+use Rattle.sheet_types.specs.WellFormed.{OfSheet, NodeFits, Admissible}
+use Rattle.seed_members.specs.Refinement.{seed}
+use Rattle.seed_members.specs.SheetMoves.{conclusions_fit}
+use Rattle.sheet_types.specs.ClosureTable.{Closures, closures_agree}
+use Rattle.sheet_types.specs.RuleTable.{rules_in, rule_in}
 use Rattle.sheet_types.specs.declared.Configuration.{Configuration}
 use Rattle.sheet_types.specs.declared.Sheet.{Sheet}
 use Rattle.sheet_types.specs.HeldSheet.{configuration, no_configuration, starts_in, sheet_of, node_in, nodes_in}
 use Rattle.sheet_types.specs.NodeTable.{nodes_of}
-use Rattle.movable_nodes.specs.NodeTables.{NodeTable}
-use Rattle.ask_labels.specs.LabelShelfLaws.{sets_few}
+use Rattle.exploration.specs.NodeTables.{NodeTable}
+use Rattle.exploration.specs.LabelShelfLaws.{sets_few}
 use Rattle.collected_moves.specs.declared.Caps.{Caps}
 use Rattle.collected_moves.specs.declared.Running.{Running}
 use Rattle.collected_moves.specs.CollectedLaws.{collecting_empty}
-use Rattle.set_growth.specs.SetGrowth.{Growth, Sound}
-use Rattle.sheet_laws.specs.Ranks.{rank_of}
-use Rattle.sheet_laws.specs.OpeningLaws.{opened_inside}
-use Rattle.sheet_laws.specs.ReadingLaws.{well_formed_ranked}
-use Rattle.walk_state.specs.WalkState.{NodesLent, MemberFits}
+use Rattle.seed_members.specs.SetGrowth.{Growth, Sound}
+use Rattle.exploration.specs.Ranks.{rank_of}
+use Rattle.exploration.specs.OpeningLaws.{opened_inside}
+use Rattle.exploration.specs.ReadingLaws.{well_formed_ranked}
+use Rattle.exploration.specs.WalkState.{NodesLent, MemberFits}
 use Rattle.exploration.specs.Exploration.{basis_of, Exploring, ExploredFor}
 use Rattle.exploration.specs.ExplorationSteps.{OnPlan}
 use Rattle.seed_members.specs.Seeds.{Cleared, SeededOn}
 use Rattle.found_set.specs.FoundSet.{limits_of, plan_of, SeedsFit}
-use Rattle.work_layout.specs.WorkLayout.{work_end, spans_at, set_room, member_room}
-use Rattle.sheets.specs.SheetLimits.{max_facts, max_rules, max_nodes}
+use Rattle.collected_moves.specs.WorkLayout.{work_end, spans_at, set_room, member_room}
+use Rattle.sheet_types.specs.SheetLimits.{max_facts, max_rules, max_nodes}
 
 -- ---- counts of a sheet that is held
 module _ (sheet : Sheet) (fine : Admissible (sheet_of sheet)) where

@@ -3,34 +3,34 @@
 use Rattle.std.specs.Prelude.{◌≡◌, refl, ◌⊎◌, Bool, true, false, ℕ, ◌+◌, ◌%◌, ◌≤◌, ◌<◌, length, get_or}
 use Rattle.std.proofs.Common.{sym, ap, subst, ⊎_elim, arith}
 use mathlib.Core.List.{List, Memᴰ}
-use Rattle.list_laws.specs.AscendingLaws.{ascends_unique}
-use Rattle.list_laws.specs.Counting.{distinct_length}
-use Rattle.list_laws.specs.Members.{mem_map}
-use Rattle.list_laws.specs.Tabulate.{tabulate_length}
-use Rattle.list_laws.specs.TabulateLaws.{tabulate_mem, mem_tabulate}
-use Rattle.store_laws.specs.StoreLaws.{within_below}
-use Rattle.sheets.specs.Sheet.{Configuration}
-use Rattle.moves.specs.Orders.{Move}
-use Rattle.move_laws.specs.OrderLaws.{configuration_order}
-use Rattle.moves.specs.Moves.{moves}
-use Rattle.refinement_laws.specs.StableRounds.{member_least}
-use Rattle.comparison.specs.Set.{explored, fits}
-use Rattle.comparison.specs.SheetTransitions.{transitions}
-use Rattle.comparison.specs.Promise.{MemberMove, PassesLimit, many_members, many_threads_lem, many_moves}
-use Rattle.comparison_laws.specs.SetLaws.{explored_member, explored_ascends, explored_complete, fits_not_over, fits_exactly}
-use Rattle.member_table.specs.MemberTable.{member_in, ordered_in}
-use Rattle.member_table.specs.MemberLaws.{ordered_member, member_ordered}
+use Rattle.sheet_types.specs.AscendingLaws.{ascends_unique}
+use Rattle.set_order.specs.Counting.{distinct_length}
+use Rattle.set_order.specs.Members.{mem_map}
+use Rattle.collected_moves.specs.Tabulate.{tabulate_length}
+use Rattle.collected_moves.specs.TabulateLaws.{tabulate_mem, mem_tabulate}
+use Rattle.sheet_types.specs.StoreLaws.{within_below}
+use Rattle.sheet_types.specs.Sheet.{Configuration}
+use Rattle.sheet_types.specs.Orders.{Move}
+use Rattle.exploration.specs.OrderLaws.{configuration_order}
+use Rattle.sheet_types.specs.Moves.{moves}
+use Rattle.seed_members.specs.StableRounds.{member_least}
+use Rattle.seed_members.specs.Set.{explored, fits}
+use Rattle.seed_members.specs.SheetTransitions.{transitions}
+use Rattle.seed_members.specs.Promise.{MemberMove, PassesLimit, many_members, many_threads_lem, many_moves}
+use Rattle.seed_members.specs.SetLaws.{explored_member, explored_ascends, explored_complete, fits_not_over, fits_exactly}
+use Rattle.collected_moves.specs.MemberTable.{member_in, ordered_in}
+use Rattle.collected_moves.specs.MemberLaws.{ordered_member, member_ordered}
 use Rattle.collected_moves.specs.declared.Running.{Running}
 use Rattle.collected_moves.specs.CollectedMoves.{member_part, members_of, move_in_lem}
-use Rattle.set_growth.specs.SetGrowth.{Growth, Sound, InSet}
-use Rattle.work_layout.specs.SetLayout.{SetHeld}
+use Rattle.seed_members.specs.SetGrowth.{Growth, Sound, InSet}
+use Rattle.seed_members.specs.SetLayout.{SetHeld}
 use Rattle.set_order.specs.OrderedSet.{span_numbers, SpanFits, Discovered}
 use Rattle.set_order.specs.OrderedSetLaws.{arranged_held}
 use Rattle.set_order.specs.SetOrderSteps.{DiscoveredSome, ArrangedAll}
 use Rattle.exploration.specs.declared.Plan.{Plan}
-use Rattle.unexplored_members.specs.UnexploredMembers.{IsExplored}
+use Rattle.exploration.specs.UnexploredMembers.{IsExplored}
 use Rattle.exploration.specs.Exploration.{Exploring, ExploredFor}
-use Rattle.work_layout.specs.WorkLayout.{spans_at}
+use Rattle.collected_moves.specs.WorkLayout.{spans_at}
 
 module _ {plan : Plan} {w : List ℕ} {t : Running} (ex : Exploring w plan t) (all : (id : ℕ) → id < t.members → IsExplored w id) where
   has_span : (id : ℕ) → id < t.members → SpanFits w t.members t.moves id

@@ -1,14 +1,16 @@
 // The set of a comparison in the work slice: every member once and in order, each with its moves, or that it passes a cap.
+#![tactic(auto)]
+
 ghost use Rattle.std.specs.Prelude.{◌≤◌, length};
-ghost use Rattle.sheets.specs.WellFormed.{Admissible};
+ghost use Rattle.sheet_types.specs.WellFormed.{Admissible};
 ghost use Rattle.sheet_types.specs.HeldSheet.{starts_in, sheet_of, nodes_in};
 ghost use Rattle.sheet_types.specs.NodeTable.{nodes_of};
-ghost use Rattle.movable_nodes.specs.NodeTables.{NodeTable};
+ghost use Rattle.exploration.specs.NodeTables.{NodeTable};
 ghost use Rattle.exploration.specs.Exploration.{Exploring};
 ghost use Rattle.exploration.specs.ExplorationSteps.{SetExplored};
 ghost use Rattle.seed_members.specs.Seeds.{CapsFit};
 ghost use Rattle.found_set.specs.FoundSet.{limits_of, plan_of, SeedsFit, SetFound};
-ghost use Rattle.work_layout.specs.WorkLayout.{work_end};
+ghost use Rattle.collected_moves.specs.WorkLayout.{work_end};
 
 use collected_moves::{Caps, Noted, Running};
 use exploration::Plan;

@@ -1,20 +1,20 @@
 -- Laws of rules that stand in a slice: put there one after the other, and a set grown by all of them at once.
 use Rattle.std.specs.Prelude.{◌≡◌, refl, ◌⊎◌, Bool, true, false, cond, ℕ, ◌+◌, ◌%◌, ◌^◌, ◌≤◌, ◌<◌, length, get_or, set, eqb, ltb}
-use Rattle.std.proofs.Common.{sym, ap, ap₂, ◌∙◌, subst, inl, inr, ⊎_elim, arith, length-set, get_or-set_same, get_or_set_other, eqb-true, eq_eqb, ne_eqb, ltb-true, ltb-false}
+use Rattle.std.proofs.Common.{sym, ap, ap₂, ◌∙◌, subst, inl, inr, ⊎_elim, arith, length-set, get_or-set_same, get_or-set_other, eqb-true, eq-eqb, ne_eqb, ltb-true, ltb-false}
 use mathlib.Core.List.Memᴰ
 use mathlib.Core.List.{List, [], ◌∷◌, ◌++◌, Memᴰ}
 use Rattle.std.specs.Int.Bits.{bit_and, bit_or, or_zero_r}
-use Rattle.list_laws.specs.Frames.{SameOutside, outside_same, outside_set, outside_again}
-use Rattle.list_laws.specs.Tabulate.{tabulate, tabulate_none, tabulate_next, tabulate_same}
-use Rattle.list_laws.specs.TabulateLaws.{mem_tabulate, tabulate_mem}
-use Rattle.stores.specs.FactSets.{Within}
-use Rattle.stores.specs.Stores.{Rule, Closed, conclusions, closure}
-use Rattle.store_laws.specs.FactSetLaws.{and_within, within_and, within_refl, within_trans, within_antisym, within_or_left, within_or_right, or_least, within_le, empty_within}
-use Rattle.store_laws.specs.StoreLaws.{smallest_unique, closure_smallest, closure_lt, Between}
+use Rattle.set_closure.specs.Frames.{SameOutside, outside_same, outside_set, outside_again}
+use Rattle.set_closure.specs.Tabulate.{tabulate, tabulate_none, tabulate_next, tabulate_same}
+use Rattle.set_closure.specs.TabulateLaws.{mem_tabulate, tabulate_mem}
+use Rattle.set_closure.specs.FactSets.{Within}
+use Rattle.set_closure.specs.Stores.{Rule, Closed, conclusions, closure}
+use Rattle.set_closure.specs.FactSetLaws.{and_within, within_and, within_refl, within_trans, within_antisym, within_or_left, within_or_right, or_least, within_le, empty_within}
+use Rattle.set_closure.specs.StoreLaws.{smallest_unique, closure_smallest, closure_lt, Between}
 use Rattle.search_laws.specs.AskLaws.{conclusions_within}
 use Rattle.set_closure.specs.RuleTable.{rule_in, rules_in}
 use Rattle.held_rules.specs.HeldRules.{least_at, rules_end, held_rule, no_premise, few_rules, held_count, held_rules, RulesPut, RulesHeld, GrownBy, ReadClosure}
-use Rattle.sheets.specs.SheetLimits.{max_rules}
+use Rattle.set_closure.specs.SheetLimits.{max_rules}
 
 -- ---- rules that add nothing
 -- conclusions that are all inside a set
@@ -77,7 +77,7 @@ put_held v i p q = set (set v i p) (max_rules + i) q
 
 module _ (v : List ℕ) (i p q : ℕ) (l : i < max_rules) (long : least_at ≤ length v) where
   put_premise : get_or (put_held v i p q) i 0 ≡ p
-  put_premise = get_or_set_other (set v i p) (max_rules + i) i q 0 (omega arith) ∙ get_or-set_same v i p 0 (omega arith)
+  put_premise = get_or-set_other (set v i p) (max_rules + i) i q 0 (omega arith) ∙ get_or-set_same v i p 0 (omega arith)
 
   put_conclusion : get_or (put_held v i p q) (max_rules + i) 0 ≡ q
   put_conclusion = get_or-set_same (set v i p) (max_rules + i) q 0 (simp length-set (omega arith))
@@ -88,11 +88,11 @@ module _ (v : List ℕ) (i p q : ℕ) (l : i < max_rules) (long : least_at ≤ l
   module _ (j : ℕ) (b : j < i) where
     put_premise_other : get_or (put_held v i p q) j 0 ≡ get_or v j 0
     put_premise_other =
-        get_or_set_other (set v i p) (max_rules + i) j q 0 (omega arith) ∙ get_or_set_other v i j p 0 (omega arith)
+        get_or-set_other (set v i p) (max_rules + i) j q 0 (omega arith) ∙ get_or-set_other v i j p 0 (omega arith)
 
     put_conclusion_other : get_or (put_held v i p q) (max_rules + j) 0 ≡ get_or v (max_rules + j) 0
     put_conclusion_other =
-        get_or_set_other (set v i p) (max_rules + i) (max_rules + j) q 0 (omega arith) ∙ get_or_set_other v i (max_rules + j) p 0 (omega arith)
+        get_or-set_other (set v i p) (max_rules + i) (max_rules + j) q 0 (omega arith) ∙ get_or-set_other v i (max_rules + j) p 0 (omega arith)
 
     put_held_other : held_rule (put_held v i p q) j ≡ held_rule v j
     put_held_other = ap₂ (λ (x y : ℕ). record { premise = x; conclusion = y }) put_premise_other put_conclusion_other
@@ -135,10 +135,10 @@ put_next {rules} {n} {i} {w} {v} p q h l long is not small =
 
 -- how many rules are read
 pub count_none : (w : List ℕ) → get_or w 0 0 ≡ no_premise → held_count w ≡ 0
-count_none w e = rw (eq_eqb (get_or w 0 0) no_premise e)
+count_none w e = rw (eq-eqb (get_or w 0 0) no_premise e)
 
 pub count_few : (w : List ℕ) → (get_or w 0 0 ≡ no_premise → ⊥) → get_or w few_rules 0 ≡ no_premise → held_count w ≡ few_rules
-count_few w f e = rw (ne_eqb (get_or w 0 0) no_premise f, eq_eqb (get_or w few_rules 0) no_premise e)
+count_few w f e = rw (ne_eqb (get_or w 0 0) no_premise f, eq-eqb (get_or w few_rules 0) no_premise e)
 
 pub count_many : (w : List ℕ) → (get_or w 0 0 ≡ no_premise → ⊥) → (get_or w few_rules 0 ≡ no_premise → ⊥) → held_count w ≡ max_rules
 count_many w f g = rw (ne_eqb (get_or w 0 0) no_premise f, ne_eqb (get_or w few_rules 0) no_premise g)
@@ -307,7 +307,7 @@ held_agree v h e = record { put = put_agree v h.put (λ i l. e i (omega arith));
 pub least_held : {rs : List Rule} {w : List ℕ} (x : ℕ) → rules_end ≤ length w → RulesPut rs w → x ≡ closure (held_rules w) 0 → RulesHeld rs (set w least_at x)
 least_held {rs} {w} x long h e =
     record {
-      put = put_agree (set w least_at x) h (λ i l. get_or_set_other w least_at i x 0 (omega arith));
+      put = put_agree (set w least_at x) h (λ i l. get_or-set_other w least_at i x 0 (omega arith));
       least = get_or-set_same w least_at x 0 (omega arith) ∙ e ∙ h.closures 0;
     }
 

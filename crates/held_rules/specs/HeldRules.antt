@@ -1,10 +1,10 @@
 -- The rules of a sheet as they stand at the beginning of a slice: premises, then conclusions, then the least store. Where there are fewer rules
 -- than there is room for, the other places have a premise that no set includes, and an empty conclusion. Where the first place or the ninth has that premise no rule is read from it on.
 use Rattle.std.specs.Prelude.{◌≡◌, cond, List, ℕ, ◌+◌, ◌*◌, ◌%◌, ◌^◌, ◌≤◌, ◌<◌, get_or, eqb}
-use Rattle.list_laws.specs.Tabulate.{tabulate}
-use Rattle.stores.specs.FactSets.{Within}
-use Rattle.stores.specs.Stores.{Rule, Closed, conclusions, closure, least_store}
-use Rattle.sheets.specs.SheetLimits.{max_rules}
+use Rattle.set_closure.specs.Tabulate.{tabulate}
+use Rattle.set_closure.specs.FactSets.{Within}
+use Rattle.set_closure.specs.Stores.{Rule, Closed, conclusions, closure, least_store}
+use Rattle.set_closure.specs.SheetLimits.{max_rules}
 
 -- the first place after the rules, where the least store stands, and the first place after that
 abbrev pub least_at : ℕ

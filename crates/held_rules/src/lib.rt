@@ -1,9 +1,11 @@
 // The rules of a sheet at the beginning of a slice, and closures worked out from them.
+#![tactic(auto)]
+
 ghost use Rattle.std.specs.Prelude.{◌≡◌, ◌+◌, ◌≤◌, ◌<◌, length, get_or};
-ghost use Rattle.list_laws.specs.Frames.{SameOutside};
-ghost use Rattle.stores.specs.Stores.{conclusions, closure};
+ghost use Rattle.set_closure.specs.Frames.{SameOutside};
+ghost use Rattle.set_closure.specs.Stores.{conclusions, closure};
 ghost use Rattle.set_closure.specs.RuleTable.{rules_in};
-ghost use Rattle.sheets.specs.SheetLimits.{max_rules};
+ghost use Rattle.set_closure.specs.SheetLimits.{max_rules};
 ghost use Rattle.held_rules.specs.HeldRules.{least_at, rules_end, no_premise, held_count, held_rules, RulesPut, RulesHeld, GrownBy, ReadClosure};
 
 const MAX_RULES: usize = 32;

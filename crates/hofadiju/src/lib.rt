@@ -1,11 +1,13 @@
 // The library for callers in C and Rust, over numbers and slices: document 01's call, the desk's, the call for all starts, and the call for
 // so many rounds; and the library's version. include/hofadiju.h declares them.
+#![tactic(auto)]
+
 ghost use Rattle.std.specs.Prelude.{◌≡◌, length};
-ghost use Rattle.comparison.specs.Call.{compare, compare_desk};
+ghost use Rattle.answer_numbers.specs.Call.{compare, compare_desk};
 ghost use Rattle.answer_numbers.specs.AnswerNumbers.{Handed};
-ghost use Rattle.all_starts.specs.Grouping.{compare_all};
+ghost use Rattle.all_numbers.specs.Grouping.{compare_all};
 ghost use Rattle.all_numbers.specs.AllNumbers.{HandedAll};
-ghost use Rattle.after_rounds.specs.AfterRounds.{compare_rounds, compare_rounds_desk};
+ghost use Rattle.rounds_numbers.specs.AfterRounds.{compare_rounds, compare_rounds_desk};
 ghost use Rattle.rounds_numbers.specs.RoundsNumbers.{HandedRounds};
 ghost use Rattle.library_version.specs.LibraryVersion.{library_version};
 

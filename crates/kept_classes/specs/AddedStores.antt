@@ -2,13 +2,13 @@
 -- store exactly when u's store is within t's.
 use Rattle.std.specs.Prelude.{◌≡◌, refl, ◌↔◌, ℕ, ◌^◌, ◌<◌}
 use Rattle.std.proofs.Common.{sym, ap, subst}
-use Rattle.stores.specs.FactSets.{Within}
-use Rattle.store_laws.specs.FactSetLaws.{within_trans, within_antisym}
-use Rattle.stores.specs.Stores.{Closed, conclusions, join, least_store}
-use Rattle.store_laws.specs.StoreLaws.{join_left, join_right, join_least, join_closed, least_within}
-use Rattle.sheets.specs.Sheet.{Configuration, Sheet}
-use Rattle.moves.specs.Moves.{Moves, add}
-use Rattle.move_laws.specs.MoveLaws.{carry_move, move_labelled}
+use Rattle.comparison_laws.specs.FactSets.{Within}
+use Rattle.comparison_laws.specs.FactSetLaws.{within_trans, within_antisym}
+use Rattle.work_layout.specs.Stores.{Closed, conclusions, join, least_store}
+use Rattle.comparison_laws.specs.StoreLaws.{join_left, join_right, join_least, join_closed, least_within}
+use Rattle.comparison_laws.specs.Sheet.{Configuration, Sheet}
+use Rattle.comparison_laws.specs.Moves.{Moves, add}
+use Rattle.comparison_laws.specs.MoveLaws.{carry_move, move_labelled}
 
 module _ (sheet : Sheet) (fit : conclusions sheet.rules < 2 ^ sheet.facts) where
   -- stores only grow along moves

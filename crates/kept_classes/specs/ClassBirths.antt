@@ -5,8 +5,8 @@ use Rattle.std.specs.Prelude.{◌≡◌, ◌↔◌, true, false, eqb, ltb}
 use Rattle.std.proofs.Math.Path.{refl}
 use Rattle.std.proofs.Common.{sym, ap, ◌∙◌, subst, arith}
 use Prim.Native.Nat.{ℕ, zero, suc, ◌+◌, ◌≤◌, ◌<◌, min, max}
-use borrow.Author.Tests.{lt-ltb, le-ltb, ltb-true, ltb-false, eqb-true, eqb-false, eq_eqb, ne_eqb}
-use Rattle.list_laws.specs.TestLaws.{Tested, tested, passes, fails}
+use borrow.Author.Tests.{lt-ltb, le-ltb, ltb-true, ltb-false, eqb-true, eqb-false, eq-eqb, ne_eqb}
+use Rattle.work_layout.specs.TestLaws.{Tested, tested, passes, fails}
 
 module _ (from born : ℕ → ℕ) where
   -- from class c upwards to the first class that is no younger than round n; at most k steps
@@ -50,11 +50,11 @@ module _ (from born : ℕ → ℕ) where
   -- ---- one step of the search for the first round apart
   pub apart_same : (k r a b : ℕ) → a ≡ b → apart_from_lem (suc k) r a b ≡ r
   unfolding apart_from_lem
-  apart_same k r a b e = rw (apart_from_lem, eq_eqb a b e)
+  apart_same k r a b e = rw (apart_from_lem, eq-eqb a b e)
 
   pub apart_founders : (k r a b : ℕ) → (a ≡ b → ⊥) → born (max a b) ≡ 0 → apart_from_lem (suc k) r a b ≡ 0
   unfolding apart_from_lem
-  apart_founders k r a b d e = rw (apart_from_lem, ne_eqb a b d, eq_eqb (born (max a b)) 0 e)
+  apart_founders k r a b d e = rw (apart_from_lem, ne_eqb a b d, eq-eqb (born (max a b)) 0 e)
 
   pub apart_up : (k r a b : ℕ) → (a ≡ b → ⊥) → (born (max a b) ≡ 0 → ⊥)
       → apart_from_lem (suc k) r a b ≡ apart_from_lem k (born (max a b)) (min a b) (from (max a b))

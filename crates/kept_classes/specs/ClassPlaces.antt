@@ -3,14 +3,14 @@
 use Rattle.std.specs.Prelude.{◌≡◌, refl, ◌↔◌, ℕ, suc, ◌<◌, length, get_or}
 use Rattle.std.proofs.Common.{sym, ◌∙◌, subst}
 use mathlib.Core.List.{List, Memᴰ}
-use Rattle.list_laws.specs.ListPlaces.{get_d_in, get_d_any}
-use Rattle.sheets.specs.Sheet.{Configuration, Sheet}
-use Rattle.sheets.specs.WellFormed.{WellFormed}
-use Rattle.refinement.specs.Refinement.{Round}
-use Rattle.refinement_laws.specs.RoundLevels.{round_refl}
-use Rattle.comparison.specs.Classes.{place_of, class_of}
-use Rattle.comparison.specs.Rounds.{rounds}
-use Rattle.comparison.specs.SheetTransitions.{transitions}
+use Rattle.comparison_laws.specs.ListPlaces.{get_d_in, get_d_any}
+use Rattle.comparison_laws.specs.Sheet.{Configuration, Sheet}
+use Rattle.comparison_laws.specs.WellFormed.{WellFormed}
+use Rattle.comparison_laws.specs.Refinement.{Round}
+use Rattle.comparison_laws.specs.RoundLevels.{round_refl}
+use Rattle.comparison_laws.specs.Classes.{place_of, class_of}
+use Rattle.comparison_laws.specs.Rounds.{rounds}
+use Rattle.comparison_laws.specs.SheetTransitions.{transitions}
 use Rattle.comparison_laws.specs.SheetMoves.{lawful}
 use Rattle.comparison_laws.specs.ClassLaws.{place_of_lt, place_of_at}
 use Rattle.comparison_laws.specs.RoundLaws.{ClosedList, Sharing}

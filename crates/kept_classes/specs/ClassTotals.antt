@@ -1,18 +1,18 @@
 -- How many classes a list of class numbers stands for.
 use Rattle.std.specs.Prelude.{◌≡◌, refl, ◌↔◌, ◌⊎◌, ℕ, zero, suc, ◌≤◌, ◌<◌, length, get_or, eqb, ltb}
-use Rattle.std.proofs.Common.{sym, ◌∙◌, subst, inl, inr, arith, eqb-true, eq_eqb, ltb-true, ltb-false}
+use Rattle.std.proofs.Common.{sym, ◌∙◌, subst, inl, inr, arith, eqb-true, eq-eqb, ltb-true, ltb-false}
 use mathlib.Core.List.{List, map, Memᴰ}
 use Rattle.std.proofs.lemmas.List.{length-map}
-use Rattle.lists.specs.Lists.{Distinct, arrange}
-use Rattle.list_laws.specs.TestLaws.{Tested, tested, passes, fails, neither_below}
-use Rattle.list_laws.specs.Members.{mem_map}
-use Rattle.list_laws.specs.ListPlaces.{get_d_in}
-use Rattle.list_laws.specs.AscendingLaws.{arrange_ascends, arrange_keeps, arrange_only, number_order}
-use Rattle.list_laws.specs.Counting.{distinct_length, ascends_distinct, distinct_map_on}
-use Rattle.list_laws.specs.Tabulate.{tabulate, tabulate_length}
-use Rattle.list_laws.specs.TabulateLaws.{mem_tabulate, tabulate_mem, distinct_tabulate}
-use Rattle.comparison.specs.Classes.{position, class_total}
-use Rattle.comparison.specs.Promise.{NumberedByFirst}
+use Rattle.comparison_laws.specs.Lists.{Distinct, arrange}
+use Rattle.work_layout.specs.TestLaws.{Tested, tested, passes, fails, neither_below}
+use Rattle.comparison_laws.specs.Members.{mem_map}
+use Rattle.comparison_laws.specs.ListPlaces.{get_d_in}
+use Rattle.comparison_laws.specs.AscendingLaws.{arrange_ascends, arrange_keeps, arrange_only, number_order}
+use Rattle.comparison_laws.specs.Counting.{distinct_length, ascends_distinct, distinct_map_on}
+use Rattle.work_layout.specs.Tabulate.{tabulate, tabulate_length}
+use Rattle.work_layout.specs.TabulateLaws.{mem_tabulate, tabulate_mem, distinct_tabulate}
+use Rattle.comparison_laws.specs.Classes.{position, class_total}
+use Rattle.comparison_laws.specs.Promise.{NumberedByFirst}
 use Rattle.comparison_laws.specs.ClassLaws.{position_found, position_at}
 
 each_once : (numbers : List ℕ) → Distinct (arrange ltb numbers)
@@ -40,7 +40,7 @@ total_is numbers count below used =
 -- a number stands at the first place that has it
 first_at_lem : (xs : List ℕ) {c : ℕ} → Memᴰ c xs → (position (eqb c) xs < length xs) × (get_or xs (position (eqb c) xs) 0 ≡ c)
 first_at_lem xs {c} m =
-    let l = position_found (eqb c) xs m (eq_eqb c c refl) in
+    let l = position_found (eqb c) xs m (eq-eqb c c refl) in
     (l, sym (eqb-true c (get_or xs (position (eqb c) xs) 0) (position_at (eqb c) xs 0 l).1))
 
 -- ---- numbers by first member

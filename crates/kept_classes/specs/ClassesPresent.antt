@@ -4,7 +4,7 @@ use Rattle.std.proofs.Math.Path.{refl, sym, ap}
 use Rattle.std.proofs.Common.{◌∙◌, subst, inl, inr, arith}
 use Prim.Native.Nat.{ℕ, zero, suc, ◌+◌, ◌≤◌, ◌<◌}
 use borrow.Author.Tests.{ltb-true, ltb-false, eqb-true, eqb-false}
-use Rattle.list_laws.specs.TestLaws.{Tested, tested, passes, fails}
+use Rattle.work_layout.specs.TestLaws.{Tested, tested, passes, fails}
 use Rattle.kept_classes.specs.ClassBirths.{climb, in_round, apart, Births, climb_up, climb_stay, in_round_before, in_round_after, apart_from, apart_law}
 
 -- ---- other births that are the same below `count`

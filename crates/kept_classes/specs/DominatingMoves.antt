@@ -4,24 +4,24 @@ use Rattle.std.specs.Prelude.{◌≡◌, refl, Bool, true, false, cond, ◌&&◌
 use Rattle.std.proofs.Common.{sym, ap, ◌∙◌, subst, arith, eqb-true, ltb-true, ltb-false}
 use mathlib.Core.List.{List, Memᴰ}
 use Rattle.std.proofs.lemmas.Bool.{eqb-false}
-use Rattle.list_laws.specs.TestLaws.{true_false, and_left, and_right, and_intro, Tested, tested, passes, fails}
-use Rattle.list_laws.specs.PlacesPassed.{holds_next}
-use Rattle.list_laws.specs.Members.{any_mem}
-use Rattle.list_laws.specs.ListPlaces.{get_d_in, any_nowhere, ascends_places}
-use Rattle.store_laws.specs.FactSetLaws.{within_le}
-use Rattle.stores.specs.Stores.{strictly_below}
-use Rattle.store_laws.specs.StoreLaws.{below_within}
-use Rattle.sheets.specs.Sheet.{Configuration, Sheet}
-use Rattle.sheets.specs.WellFormed.{WellFormed}
-use Rattle.moves.specs.Orders.{Move, configuration_before, move_before}
-use Rattle.move_laws.specs.OrderLaws.{move_order}
-use Rattle.moves.specs.Moves.{moves, add}
-use Rattle.comparison.specs.Classes.{share}
-use Rattle.comparison.specs.Rounds.{redundant}
-use Rattle.comparison.specs.SheetTransitions.{transitions}
+use Rattle.work_layout.specs.TestLaws.{true_false, and_left, and_right, and_intro, Tested, tested, passes, fails}
+use Rattle.work_layout.specs.PlacesPassed.{holds_next}
+use Rattle.comparison_laws.specs.Members.{any_mem}
+use Rattle.comparison_laws.specs.ListPlaces.{get_d_in, any_nowhere, ascends_places}
+use Rattle.comparison_laws.specs.FactSetLaws.{within_le}
+use Rattle.work_layout.specs.Stores.{strictly_below}
+use Rattle.comparison_laws.specs.StoreLaws.{below_within}
+use Rattle.comparison_laws.specs.Sheet.{Configuration, Sheet}
+use Rattle.comparison_laws.specs.WellFormed.{WellFormed}
+use Rattle.comparison_laws.specs.Orders.{Move, configuration_before, move_before}
+use Rattle.comparison_laws.specs.OrderLaws.{move_order}
+use Rattle.comparison_laws.specs.Moves.{moves, add}
+use Rattle.comparison_laws.specs.Classes.{share}
+use Rattle.comparison_laws.specs.Rounds.{redundant}
+use Rattle.comparison_laws.specs.SheetTransitions.{transitions}
 use Rattle.comparison_laws.specs.SetLaws.{moves_ascend}
 use Rattle.comparison_laws.specs.RoundLaws.{ClosedList, Sharing}
-use Rattle.refinement_laws.specs.EarlierRounds.{round_earlier}
+use Rattle.comparison_laws.specs.EarlierRounds.{round_earlier}
 
 module _ (sheet : Sheet) (set : List Configuration) where
   -- k makes m redundant in these classes

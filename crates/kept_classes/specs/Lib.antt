@@ -1,3 +1,11 @@
+pub use Rattle.comparison_laws.specs.ClassLaws
+pub use Rattle.comparison_laws.specs.EarlierRounds
+pub use Rattle.comparison_laws.specs.OrderLaws
+pub use Rattle.comparison_laws.specs.ResultLaws
+pub use Rattle.comparison_laws.specs.RoundLaws
+pub use Rattle.comparison_laws.specs.SheetMoves
+pub use Rattle.comparison_laws.specs.StoreLaws
+pub use Rattle.comparison_laws.specs.TrailLaws
 pub mod ClassBirths
 pub mod RoundLines
 pub mod AddedStores

@@ -4,20 +4,20 @@ use Rattle.std.specs.Prelude.{◌≡◌, ◌↔◌, true, false, ℕ, suc, ◌+�
 use Rattle.std.proofs.Common.{sym, ap, ◌∙◌, subst, arith}
 use Rattle.std.proofs.Math.Bool.{not}
 use mathlib.Core.List.{List, map, Memᴰ}
-use borrow.Author.Tests.{eqb-true, eq_eqb, not-true}
-use Rattle.list_laws.specs.TestLaws.{true_false, not_passes}
-use Rattle.lists.specs.Lists.{select, Ascends, arrange}
-use Rattle.list_laws.specs.Members.{mem_select, select_mem, mem_map, map_mem}
-use Rattle.list_laws.specs.AscendingLaws.{arrange_ascends, arrange_keeps, arrange_only, ascends_unique, number_order}
-use Rattle.sheets.specs.Sheet.{Configuration, Sheet}
-use Rattle.sheets.specs.WellFormed.{WellFormed}
-use Rattle.moves.specs.Orders.{Move}
-use Rattle.moves.specs.Moves.{moves}
-use Rattle.refinement.specs.Refinement.{Redundant, Round}
-use Rattle.refinement_laws.specs.RoundLevels.{class_lines_same, round_sym}
-use Rattle.comparison.specs.Classes.{class_of, share}
-use Rattle.comparison.specs.Rounds.{redundant, together}
-use Rattle.comparison.specs.SheetTransitions.{transitions}
+use borrow.Author.Tests.{eqb-true, eq-eqb, not-true}
+use Rattle.work_layout.specs.TestLaws.{true_false, not_passes}
+use Rattle.comparison_laws.specs.Lists.{select, Ascends, arrange}
+use Rattle.comparison_laws.specs.Members.{mem_select, select_mem, mem_map, map_mem}
+use Rattle.comparison_laws.specs.AscendingLaws.{arrange_ascends, arrange_keeps, arrange_only, ascends_unique, number_order}
+use Rattle.comparison_laws.specs.Sheet.{Configuration, Sheet}
+use Rattle.comparison_laws.specs.WellFormed.{WellFormed}
+use Rattle.comparison_laws.specs.Orders.{Move}
+use Rattle.comparison_laws.specs.Moves.{moves}
+use Rattle.comparison_laws.specs.Refinement.{Redundant, Round}
+use Rattle.comparison_laws.specs.RoundLevels.{class_lines_same, round_sym}
+use Rattle.comparison_laws.specs.Classes.{class_of, share}
+use Rattle.comparison_laws.specs.Rounds.{redundant, together}
+use Rattle.comparison_laws.specs.SheetTransitions.{transitions}
 use Rattle.comparison_laws.specs.SheetMoves.{lawful}
 use Rattle.comparison_laws.specs.RoundLaws.{ClosedList, Sharing, redundant_no, redundant_test, together_yes, together_test}
 use Rattle.kept_classes.specs.RoundLines.{LinesIn, round_lines}
@@ -95,7 +95,7 @@ module _ (sheet : Sheet) (set : List Configuration) (numbers : List ℕ) where
           k.target,
           subst (λ (v : ℕ). Memᴰ (record { label = v; target = k.target }) (moves sheet q)) (sym lb) x.1,
           sh.to_round t k.target (closed.targets p m mp i) (closed.targets q k mq x.1)
-              (eq_eqb (class_of set numbers t) (class_of set numbers k.target) cl),
+              (eq-eqb (class_of set numbers t) (class_of set numbers k.target) cl),
           λ y. true_false (redundant sheet set numbers q k)
               (redundant_test sheet wf set closed numbers n sh q k mq x.1
               (subst (λ (v : ℕ). Redundant (transitions sheet) (Round (transitions sheet) n) q v k.target) lb y)) x.2,

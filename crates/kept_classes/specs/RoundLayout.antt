@@ -1,36 +1,36 @@
 -- The rounds beside a set that stands in the work slice: the places of classes, births, lines and kept dominating moves; what
 -- is written there leaves the set as it is; and what classes and dominating moves are, by places.
 use Rattle.std.specs.Prelude.{◌≡◌, refl, ◌⊎◌, Bool, true, false, ◌&&◌, ℕ, ◌+◌, ◌*◌, ◌-◌, ◌/◌, ◌%◌, ◌≤◌, ◌<◌, length, get_or, set, eqb, ltb}
-use Rattle.std.proofs.Common.{sym, ap, ap₂, ◌∙◌, subst, inl, inr, arith, length-set, get_or_set_other, ltb-true, ltb-false}
+use Rattle.std.proofs.Common.{sym, ap, ap₂, ◌∙◌, subst, inl, inr, arith, length-set, get_or-set_other, ltb-true, ltb-false}
 use mathlib.Core.List.{List, map, Memᴰ}
 use Rattle.std.proofs.lemmas.List.{length-map}
 use Rattle.std.proofs.Math.ListN.{get_or-eq_default}
-use Rattle.list_laws.specs.TestLaws.{and_right, Tested, tested, passes, fails}
-use Rattle.list_laws.specs.Members.{map_mem}
-use Rattle.list_laws.specs.ListPlaces.{get_d_image, map_alike}
-use Rattle.lists.specs.Lists.{Ascends}
-use Rattle.list_laws.specs.Tabulate.{tabulate, tabulate_same, tabulate_length, tabulate_at}
-use Rattle.list_laws.specs.TabulateLaws.{mem_tabulate, ascends_at}
-use Rattle.list_laws.specs.Frames.{SameOutside}
-use Rattle.number_lists.specs.NumberLists.{numbers_in}
-use Rattle.number_lists.specs.NumberLaws.{numbers_same, numbers_tabulate, numbers_length, numbers_at_lem}
-use Rattle.stores.specs.FactSets.{Within}
-use Rattle.stores.specs.Stores.{strictly_below}
-use Rattle.store_laws.specs.StoreLaws.{below_within}
-use Rattle.sheets.specs.Sheet.{Configuration, Sheet}
-use Rattle.sheets.specs.WellFormed.{WellFormed}
-use Rattle.moves.specs.Orders.{Move, configuration_before}
-use Rattle.move_laws.specs.OrderLaws.{configuration_order}
-use Rattle.moves.specs.Moves.{moves, Moves, add}
-use Rattle.packing.specs.Packing.{unpacked}
+use Rattle.work_layout.specs.TestLaws.{and_right, Tested, tested, passes, fails}
+use Rattle.comparison_laws.specs.Members.{map_mem}
+use Rattle.comparison_laws.specs.ListPlaces.{get_d_image, map_alike}
+use Rattle.comparison_laws.specs.Lists.{Ascends}
+use Rattle.work_layout.specs.Tabulate.{tabulate, tabulate_same, tabulate_length, tabulate_at}
+use Rattle.work_layout.specs.TabulateLaws.{mem_tabulate, ascends_at}
+use Rattle.work_layout.specs.Frames.{SameOutside}
+use Rattle.work_layout.specs.NumberLists.{numbers_in}
+use Rattle.work_layout.specs.NumberLaws.{numbers_same, numbers_tabulate, numbers_length, numbers_at_lem}
+use Rattle.comparison_laws.specs.FactSets.{Within}
+use Rattle.work_layout.specs.Stores.{strictly_below}
+use Rattle.comparison_laws.specs.StoreLaws.{below_within}
+use Rattle.comparison_laws.specs.Sheet.{Configuration, Sheet}
+use Rattle.comparison_laws.specs.WellFormed.{WellFormed}
+use Rattle.comparison_laws.specs.Orders.{Move, configuration_before}
+use Rattle.comparison_laws.specs.OrderLaws.{configuration_order}
+use Rattle.comparison_laws.specs.Moves.{moves, Moves, add}
+use Rattle.work_layout.specs.Packing.{unpacked}
 use Rattle.work_layout.specs.SetLayout.{member_at, first_move, move_total, move_numbers_at, move_from, moves_held_at, SetHeld}
-use Rattle.comparison.specs.Classes.{place_of, class_of, share}
-use Rattle.comparison.specs.SheetTransitions.{transitions}
+use Rattle.comparison_laws.specs.Classes.{place_of, class_of, share}
+use Rattle.comparison_laws.specs.SheetTransitions.{transitions}
 use Rattle.comparison_laws.specs.SheetMoves.{conclusions_fit}
 use Rattle.comparison_laws.specs.ClassLaws.{place_of_lt, place_of_at}
 use Rattle.comparison_laws.specs.RoundLaws.{ClosedList, Sharing}
 use Rattle.comparison_laws.specs.TrailLaws.{share_sym}
-use Rattle.refinement_laws.specs.EarlierRounds.{round_earlier}
+use Rattle.comparison_laws.specs.EarlierRounds.{round_earlier}
 use Rattle.kept_classes.specs.AddedStores.{added_store, added_is}
 use Rattle.kept_classes.specs.DominatingMoves.{dominates}
 use Rattle.work_layout.specs.WorkLayout.{table_ids, spans_at, moves_at, members_at, line_totals_at, move_room}
@@ -73,8 +73,8 @@ same_set_high h s = record {
 pub same_set_store : (v : List ℕ) (i x : ℕ) → (i < spans_at) ⊎ (line_totals_at ≤ i) → SameSet v (set v i x)
 same_set_store v i x o = record {
   long = length-set v i x;
-  at_moves = λ j h k. get_or_set_other v i j x 0 (λ e. moves_apart o j h k e);
-  at_members = λ j h k. get_or_set_other v i j x 0 (λ e. members_apart o j h k e);
+  at_moves = λ j h k. get_or-set_other v i j x 0 (λ e. moves_apart o j h k e);
+  at_members = λ j h k. get_or-set_other v i j x 0 (λ e. members_apart o j h k e);
 }
   where
     moves_apart : (i < spans_at) ⊎ (line_totals_at ≤ i) → (j : ℕ) → spans_at ≤ j → j < moves_at + move_room → j ≡ i → ⊥

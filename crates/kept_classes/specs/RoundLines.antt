@@ -1,9 +1,9 @@
 -- The next round by lines, and what a round has settled for good: over any labelled moves that obey the laws.
 use Rattle.std.specs.Prelude.{◌↔◌, ℕ, suc, ◌≤◌}
-use Rattle.refinement.specs.Refinement.{Transitions, StrictlyBelow, Redundant, Answered, Round}
-use Rattle.refinement_laws.specs.LawfulMoves.{Lawful}
-use Rattle.refinement_laws.specs.RoundLevels.{class_lines_same, round_sym}
-use Rattle.refinement_laws.specs.EarlierRounds.{round_earlier}
+use Rattle.comparison_laws.specs.Refinement.{Transitions, StrictlyBelow, Redundant, Answered, Round}
+use Rattle.comparison_laws.specs.LawfulMoves.{Lawful}
+use Rattle.comparison_laws.specs.RoundLevels.{class_lines_same, round_sym}
+use Rattle.comparison_laws.specs.EarlierRounds.{round_earlier}
 
 module _ (T : Transitions) where
   open T use {Label, State, add, Move}

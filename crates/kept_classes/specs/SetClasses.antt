@@ -1,15 +1,15 @@
 -- The present classes of a set's members after round r, in numbers that are kept: they are round r, the next round is read off
 -- the lines, the last round is the result's, and the births give the first round that has two members apart.
 use Rattle.std.specs.Prelude.{◌≡◌, ◌↔◌, true, ℕ, suc, ◌≤◌, ◌<◌, length, get_or, ltb}
-use Rattle.std.proofs.Common.{sym, ◌∙◌, subst, arith, ltb-true, ltb-false, eqb-true, eq_eqb}
+use Rattle.std.proofs.Common.{sym, ◌∙◌, subst, arith, ltb-true, ltb-false, eqb-true, eq-eqb}
 use mathlib.Core.List.{List, [], Memᴰ}
-use Rattle.list_laws.specs.TestLaws.{true_false, Tested, tested, passes, fails}
-use Rattle.sheets.specs.Sheet.{Configuration, Sheet}
-use Rattle.sheets.specs.WellFormed.{WellFormed}
-use Rattle.refinement.specs.Refinement.{Round}
-use Rattle.comparison.specs.Classes.{class_of, share}
-use Rattle.comparison.specs.Rounds.{classes, rounds, result_of, apart_in}
-use Rattle.comparison.specs.SheetTransitions.{transitions}
+use Rattle.work_layout.specs.TestLaws.{true_false, Tested, tested, passes, fails}
+use Rattle.comparison_laws.specs.Sheet.{Configuration, Sheet}
+use Rattle.comparison_laws.specs.WellFormed.{WellFormed}
+use Rattle.comparison_laws.specs.Refinement.{Round}
+use Rattle.comparison_laws.specs.Classes.{class_of, share}
+use Rattle.comparison_laws.specs.Rounds.{classes, rounds, result_of, apart_in}
+use Rattle.comparison_laws.specs.SheetTransitions.{transitions}
 use Rattle.comparison_laws.specs.RoundLaws.{ClosedList, Sharing, share_round}
 use Rattle.comparison_laws.specs.ResultLaws.{rounds_at, rounds_of, result_is, stable_classes}
 use Rattle.comparison_laws.specs.TrailLaws.{apart_le, apart_together, apart_at_lem}
@@ -43,7 +43,7 @@ module _ (sheet : Sheet) (set : List Configuration) where
     present_sharing = record {
       to_round = λ p q mp mq h. (now p q mp mq).0
           (sym (is p mp) ∙ eqb-true (class_of set numbers p) (class_of set numbers q) h ∙ is q mq);
-      from_round = λ p q mp mq h. eq_eqb (class_of set numbers p) (class_of set numbers q)
+      from_round = λ p q mp mq h. eq-eqb (class_of set numbers p) (class_of set numbers q)
           (is p mp ∙ (now p q mp mq).1 h ∙ sym (is q mq));
     }
 
@@ -60,7 +60,7 @@ module _ (sheet : Sheet) (set : List Configuration) where
         by s = lines_round sheet set numbers wf closed r present_sharing few p q mp mq s
 
         shared : class p ≡ class q → share set numbers p q ≡ true
-        shared e = eq_eqb (class_of set numbers p) (class_of set numbers q)
+        shared e = eq-eqb (class_of set numbers p) (class_of set numbers q)
             (is p mp ∙ e ∙ sym (is q mq))
 
     module _ (some : 1 ≤ length set) where

@@ -6,14 +6,14 @@ use mathlib.Core.List.Memᴰ
 use mathlib.Core.List.{List, [], ◌∷◌, ◌++◌, map, map-append, Memᴰ}
 use Rattle.std.specs.Int.Bits.{bit_or}
 use Rattle.std.proofs.lemmas.Nat.{or_lt}
-use Rattle.sheets.specs.Sheet.{Configuration}
-use Rattle.moves.specs.Orders.{Move}
-use Rattle.number_lists.specs.NumberLists.{numbers_in}
-use Rattle.number_lists.specs.NumberLaws.{numbers_none, numbers_next, numbers_split}
+use Rattle.sheet_types.specs.Sheet.{Configuration}
+use Rattle.packing.specs.Orders.{Move}
+use Rattle.move_entry.specs.NumberLists.{numbers_in}
+use Rattle.collected_moves.specs.NumberLaws.{numbers_none, numbers_next, numbers_split}
 use Rattle.packing.specs.declared.Numbers.{Numbers}
 use Rattle.packing.specs.Packing.{stands_for}
-use Rattle.label_search.specs.AskLabels.{part}
-use Rattle.ask_labels.specs.LabelShelfLaws.{sets_few}
+use Rattle.walk_state.specs.AskLabels.{part}
+use Rattle.walk_state.specs.LabelShelfLaws.{sets_few}
 use Rattle.collected_moves.specs.declared.Caps.{Caps}
 use Rattle.collected_moves.specs.declared.Running.{Running}
 use Rattle.collected_moves.specs.declared.Noted.{Noted}
@@ -21,7 +21,7 @@ use Rattle.collected_moves.specs.declared.Noted.TheVariants.{On, Over}
 use Rattle.collected_moves.specs.CollectedMoves.{Collecting, NotedOn, NoRoom, NotedAs}
 use Rattle.walk_state.specs.NotedInWalk.{NotedAll, AllPass, noted_next, noted_none, pass_next}
 use Rattle.label_moves.specs.LabelMoves.{label_move, label_moves, LabelsStand}
-use Rattle.work_layout.specs.WorkLayout.{lists_end}
+use Rattle.collected_moves.specs.WorkLayout.{lists_end}
 
 -- ---- a move by what its numbers stand for
 -- with this label, to the configuration that the numbers stand for, which has this store and these threads

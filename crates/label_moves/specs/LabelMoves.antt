@@ -1,10 +1,10 @@
 -- The moves with the labels of an ask, read off a slice that begins with a table of closures.
 use Rattle.std.specs.Prelude.{List, map, ℕ, ◌%◌, ◌^◌, ◌≤◌, ◌<◌, get_or}
 use Rattle.std.specs.Int.Bits.{bit_or}
-use Rattle.moves.specs.Orders.{Move}
-use Rattle.label_search.specs.AskLabels.{part}
-use Rattle.work_layout.specs.WorkLayout.{lists_at, lists_end}
-use Rattle.sheets.specs.SheetLimits.{max_facts}
+use Rattle.packing.specs.Orders.{Move}
+use Rattle.walk_state.specs.AskLabels.{part}
+use Rattle.collected_moves.specs.WorkLayout.{lists_at, lists_end}
+use Rattle.sheet_types.specs.SheetLimits.{max_facts}
 
 -- the move with label a from store d to these threads
 abbrev pub label_move : List ℕ → ℕ → List ℕ → ℕ → Move

@@ -1,2 +1,3 @@
+pub use Rattle.packing.specs.Moves
 pub mod LabelMoves
 pub mod LabelMoveLaws

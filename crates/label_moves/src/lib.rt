@@ -1,4 +1,6 @@
 // The moves that the labels of an ask give are noted.
+#![tactic(auto)]
+
 ghost use Rattle.std.specs.Prelude.{◌≤◌, ◌<◌, length};
 ghost use Rattle.std.specs.Int.Bits.{bit_or};
 ghost use Rattle.threads_beside.specs.ThreadsBeside.{node_beside};

@@ -2,13 +2,13 @@
 use Rattle.std.specs.Prelude.{◌≡◌, Bool, not, ◌&&◌, ℕ, ◌+◌, ◌-◌, ◌/◌, ◌^◌, ◌≤◌, ◌<◌, length, get_or, take, drop}
 use mathlib.Core.List.{List, Memᴰ}
 use Rattle.std.specs.Int.Bits.{bit_or}
-use Rattle.lists.specs.Lists.{any, Distinct}
-use Rattle.stores.specs.Stores.{Rule, conclusions, includes}
-use Rattle.sheets.specs.Sheet.{Sheet}
-use Rattle.moves.specs.Moves.{labels}
+use Rattle.move_laws.specs.Lists.{any, Distinct}
+use Rattle.closure_table.specs.Stores.{Rule, conclusions, includes}
+use Rattle.move_laws.specs.Sheet.{Sheet}
+use Rattle.move_laws.specs.Moves.{labels}
 use Rattle.closure_table.specs.ClosureTable.{Closures}
 use Rattle.label_tests.specs.LabelTests.{passes_by}
-use Rattle.sheets.specs.SheetLimits.{max_facts}
+use Rattle.closure_table.specs.SheetLimits.{max_facts}
 
 -- the slice begins with the closures of every set of so many facts, under some rules about them
 pub record TableOf (facts : ℕ) (w : List ℕ) : Type 0 where

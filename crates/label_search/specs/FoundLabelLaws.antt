@@ -1,25 +1,25 @@
 -- The sets found are labels, and all of them: what is found by trying the sets that have all facts of d in ascending order.
 use Rattle.std.specs.Prelude.{◌≡◌, ◌⊎◌, Bool, cond, not, ℕ, zero, suc, ◌+◌, ◌-◌, ◌^◌, ◌≤◌, ◌<◌, length, get_or, take, drop, eqb, ltb}
 use Rattle.std.proofs.Math.Path.{refl, ap}
-use Rattle.std.proofs.Common.{sym, ◌∙◌, subst, inl, inr, ⊎_elim, arith, length-drop, get_or-drop, eq_eqb, eqb-true, ltb-true, ltb-false}
+use Rattle.std.proofs.Common.{sym, ◌∙◌, subst, inl, inr, ⊎_elim, arith, length-drop, get_or-drop, eq-eqb, eqb-true, ltb-true, ltb-false}
 use Rattle.std.proofs.Math.Bool.{true, false}
 use mathlib.Core.List.Memᴰ
 use mathlib.Core.List.{List, [], ◌∷◌, ◌++◌, Memᴰ}
 use Rattle.std.specs.Int.Bits.{bit_or}
 use Rattle.std.proofs.lemmas.Bool.{not-true}
-use Rattle.list_laws.specs.TestLaws.{true_false, and_left, and_right, and_intro, or_fails, or_left, or_right, not_passes}
-use Rattle.lists.specs.Lists.{any, no_elements, one_more}
-use Rattle.list_laws.specs.Members.{any_yes, any_mem}
-use Rattle.list_laws.specs.Counting.{distinct_append}
-use Rattle.stores.specs.FactSets.{Within}
-use Rattle.store_laws.specs.FactSetLaws.{within_trans, within_or_left, within_or_right, or_least, within_le}
-use Rattle.stores.specs.Stores.{Constraint, conclusions, closure, join, includes}
-use Rattle.store_laws.specs.StoreLaws.{includes_within, within_includes, closure_constraint}
-use Rattle.sheets.specs.Sheet.{Sheet}
-use Rattle.moves.specs.Moves.{labels}
+use Rattle.move_laws.specs.TestLaws.{true_false, and_left, and_right, and_intro, or_fails, or_left, or_right, not_passes}
+use Rattle.move_laws.specs.Lists.{any, no_elements, one_more}
+use Rattle.move_laws.specs.Members.{any_yes, any_mem}
+use Rattle.move_laws.specs.Counting.{distinct_append}
+use Rattle.closure_table.specs.FactSets.{Within}
+use Rattle.closure_table.specs.FactSetLaws.{within_trans, within_or_left, within_or_right, or_least, within_le}
+use Rattle.closure_table.specs.Stores.{Constraint, conclusions, closure, join, includes}
+use Rattle.move_laws.specs.StoreLaws.{includes_within, within_includes, closure_constraint}
+use Rattle.move_laws.specs.Sheet.{Sheet}
+use Rattle.move_laws.specs.Moves.{labels}
 use Rattle.move_laws.specs.LabelLaws.{label_constraint, label_makes_true, label_below, label_minimal}
 use Rattle.closure_table.specs.ClosureTable.{Closures}
-use Rattle.store_laws.specs.OutsideLaws.{or_above}
+use Rattle.move_laws.specs.OutsideLaws.{or_above}
 use Rattle.label_search.specs.SetsAbove.{Has, above_next, next_least, has_or}
 use Rattle.label_search.specs.LabelOrder.{label_outside}
 use Rattle.label_tests.specs.LabelTests.{InsideAt, passes_by}
@@ -101,7 +101,7 @@ module _ (sheet : Sheet) (d c : ℕ) (w : List ℕ) (table : Closures sheet.rule
     label_next : {a : ℕ} → Memᴰ a (labels sheet d c) → bit_or d a ≡ v → is_next w d c found v ≡ true
     unfolding own
     label_next {a} m e =
-        and_intro (and_intro (eq_eqb (bit_or d own) v closes) (within_includes makes)) (not_passes (none (any (λ b. includes own b) found) refl))
+        and_intro (and_intro (eq-eqb (bit_or d own) v closes) (within_includes makes)) (not_passes (none (any (λ b. includes own b) found) refl))
       where
         closes : bit_or d own ≡ v
         closes = ap (bit_or d) (label_own m e) ∙ e

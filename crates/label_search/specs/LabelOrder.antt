@@ -4,16 +4,16 @@ use Rattle.std.specs.Prelude.{◌≡◌, true, ℕ, ◌^◌, ◌<◌}
 use Rattle.std.proofs.Common.{subst, arith}
 use mathlib.Core.List.{◌∷◌, Memᴰ}
 use Rattle.std.specs.Int.Bits.{bit_or}
-use Rattle.list_laws.specs.AscendingLaws.{number_order, ascends_unique}
-use Rattle.stores.specs.FactSets.{Within}
-use Rattle.store_laws.specs.FactSetLaws.{within_trans, within_or_right, or_least, within_le}
-use Rattle.stores.specs.Stores.{Constraint, conclusions, closure, join}
-use Rattle.store_laws.specs.StoreLaws.{closure_least, closure_includes, closure_closed, closure_constraint, join_left, join_right}
-use Rattle.sheets.specs.Sheet.{Sheet}
-use Rattle.moves.specs.Moves.{constraints, labels}
+use Rattle.move_laws.specs.AscendingLaws.{number_order, ascends_unique}
+use Rattle.closure_table.specs.FactSets.{Within}
+use Rattle.closure_table.specs.FactSetLaws.{within_trans, within_or_right, or_least, within_le}
+use Rattle.closure_table.specs.Stores.{Constraint, conclusions, closure, join}
+use Rattle.move_laws.specs.StoreLaws.{closure_least, closure_includes, closure_closed, closure_constraint, join_left, join_right}
+use Rattle.move_laws.specs.Sheet.{Sheet}
+use Rattle.move_laws.specs.Moves.{constraints, labels}
 use Rattle.move_laws.specs.LabelLaws.{label_constraint, label_makes_true, label_below, label_minimal, labels_ascend}
-use Rattle.stores.specs.FactsOutside.{outside}
-use Rattle.store_laws.specs.OutsideLaws.{or_outside, outside_within}
+use Rattle.move_laws.specs.FactsOutside.{outside}
+use Rattle.move_laws.specs.OutsideLaws.{or_outside, outside_within}
 
 -- ---- the asked set
 -- where two asked sets are made true by the same constraints, a label of one is a label of the other

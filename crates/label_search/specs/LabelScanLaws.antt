@@ -1,26 +1,26 @@
 -- Laws of the scan: what stands in the slice while the sets are tried, and slices that agree where it matters.
 use Rattle.std.specs.Prelude.{◌≡◌, Bool, true, false, cond, ℕ, ◌+◌, ◌-◌, ◌/◌, ◌^◌, ◌≤◌, ◌<◌, length, get_or, set, drop}
 use Rattle.std.proofs.Math.Path.{refl, ap}
-use Rattle.std.proofs.Common.{sym, ◌∙◌, subst, inl, inr, ⊎_elim, add-one, length-take, length-drop, length-set, drop-cons, take-suc-set, get_or-set_same, get_or_set_other, get_or-drop, get_or_take, length-take-le, ext_get_or, pow_pos}
+use Rattle.std.proofs.Common.{sym, ◌∙◌, subst, inl, inr, ⊎_elim, add-one, length-take, length-drop, length-set, drop-cons, take-suc-set, get_or-set_same, get_or-set_other, get_or-drop, get_or-take, length-take-le, ext_get_or, pow_pos}
 use mathlib.Core.List.{List, [], ◌∷◌, ◌++◌, Memᴰ}
 use native.Mathlib.Omega.{arith}
 use Rattle.std.proofs.Math.ListN.{take}
 use Rattle.std.proofs.lemmas.List.{drop-set-add, take-set-le}
 use Rattle.std.specs.Int.Bits.{bit_and, bit_or, or_self}
 use Rattle.std.proofs.lemmas.Nat.{or_lt}
-use Rattle.lists.specs.Lists.{arrange, Distinct}
-use Rattle.list_laws.specs.AscendingLaws.{arrange_ascends, arrange_keeps, arrange_only, ascends_unique, number_order}
-use Rattle.list_laws.specs.Counting.{distinct_length}
+use Rattle.move_laws.specs.Lists.{arrange, Distinct}
+use Rattle.move_laws.specs.AscendingLaws.{arrange_ascends, arrange_keeps, arrange_only, ascends_unique, number_order}
+use Rattle.move_laws.specs.Counting.{distinct_length}
 use Rattle.number_lists.specs.NumberLists.{numbers_in}
 use Rattle.number_lists.specs.Entered.{Sorted}
-use Rattle.store_laws.specs.FactSetLaws.{and_within}
-use Rattle.stores.specs.Stores.{conclusions}
-use Rattle.sheets.specs.Sheet.{Sheet}
-use Rattle.moves.specs.Moves.{labels}
+use Rattle.closure_table.specs.FactSetLaws.{and_within}
+use Rattle.closure_table.specs.Stores.{conclusions}
+use Rattle.move_laws.specs.Sheet.{Sheet}
+use Rattle.move_laws.specs.Moves.{labels}
 use Rattle.move_laws.specs.LabelLaws.{label_constraint, labels_few, labels_within, labels_ascend}
 use Rattle.closure_table.specs.ClosureTable.{Closures, closures_agree}
-use Rattle.list_laws.specs.Frames.{SameOutside, outside_same, outside_again, outside_wider, outside_set}
-use Rattle.store_laws.specs.OutsideLaws.{or_above}
+use Rattle.closure_table.specs.Frames.{SameOutside, outside_same, outside_again, outside_wider, outside_set}
+use Rattle.move_laws.specs.OutsideLaws.{or_above}
 use Rattle.label_search.specs.SetsAbove.{Has, has_or}
 use Rattle.label_search.specs.AskLabels.{TableOf, LabelsAre, LabelRoom, part, is_next, Found, FoundBelow}
 use Rattle.label_search.specs.FoundLabelLaws.{found_none, found_next}
@@ -33,10 +33,10 @@ part_agree w v first end l h =
     ext_get_or 0 (part v first end) (part w first end) (simp (length-take, length-drop, l))
     (λ i k.
     let b : i < end - first = within i k in
-    get_or_take (end - first) (drop first v) i 0 b
+    get_or-take (end - first) (drop first v) i 0 b
     ∙ get_or-drop first v i 0
     ∙ h (first + i) (omega arith) (omega arith)
-    ∙ sym (get_or_take (end - first) (drop first w) i 0 b ∙ get_or-drop first w i 0))
+    ∙ sym (get_or-take (end - first) (drop first w) i 0 b ∙ get_or-drop first w i 0))
   where
     within : (i : ℕ) → i < length (part v first end) → i < end - first
     within i k = omega (arith, length-take (end - first) (drop first v))

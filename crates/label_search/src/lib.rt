@@ -1,6 +1,8 @@
 // The labels of an ask at a store: the sets that have all facts of the store are tried in ascending order.
+#![tactic(auto)]
+
 ghost use Rattle.std.specs.Prelude.{◌≡◌, cond, ◌+◌, ◌/◌, ◌≤◌, ◌<◌, ◌^◌, length, take, drop};
-ghost use Rattle.list_laws.specs.Frames.{SameOutside};
+ghost use Rattle.closure_table.specs.Frames.{SameOutside};
 ghost use Rattle.label_search.specs.AskLabels.{LabelsAre, LabelRoom, FoundBelow, is_next};
 
 use closure_table::sets_of;

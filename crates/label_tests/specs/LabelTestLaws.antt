@@ -1,6 +1,6 @@
 -- Laws of the tests: looking for a set inside another, and what passes by the table.
 use Rattle.std.specs.Prelude.{◌≡◌, refl, Bool, true, false, List, ℕ, ◌+◌, ◌-◌, ◌≤◌, ◌<◌, get_or, eqb, ltb}
-use Rattle.std.proofs.Common.{ap, ◌∙◌, arith, eq_eqb, ne_eqb, eqb-true, ltb-true, ltb-false}
+use Rattle.std.proofs.Common.{ap, ◌∙◌, arith, eq-eqb, ne_eqb, eqb-true, ltb-true, ltb-false}
 use Rattle.std.specs.Int.Bits.{bit_or}
 use Rattle.std.proofs.lemmas.Bool.{eqb-false}
 use Rattle.stores.specs.Stores.{includes}
@@ -37,7 +37,7 @@ module _ (w : List ℕ) (first end hint a : ℕ) (low : first ≤ hint) (high : 
 -- ---- the tests by the table
 module _ (w : List ℕ) (d c v : ℕ) where
   pub passes_closed : bit_or d (get_or w (v - d) 0) ≡ v → passes_by w d c v ≡ includes (get_or w v 0) c
-  passes_closed e = rw (eq_eqb (bit_or d (get_or w (v - d) 0)) v e)
+  passes_closed e = rw (eq-eqb (bit_or d (get_or w (v - d) 0)) v e)
 
   pub passes_open : (bit_or d (get_or w (v - d) 0) ≡ v → ⊥) → passes_by w d c v ≡ false
   passes_open n = rw (ne_eqb (bit_or d (get_or w (v - d) 0)) v n)

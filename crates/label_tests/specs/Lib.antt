@@ -1,2 +1,3 @@
+pub use Rattle.stores.specs.FactsOutside
 pub mod LabelTests
 pub mod LabelTestLaws

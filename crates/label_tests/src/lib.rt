@@ -1,4 +1,6 @@
 // The tests of a set that may give a label: by the table of closures, and by the labels found before.
+#![tactic(auto)]
+
 ghost use Rattle.std.specs.Prelude.{◌≡◌, ◌≤◌, ◌<◌, length, get_or};
 ghost use Rattle.label_tests.specs.LabelTests.{InsideAt, passes_by};
 

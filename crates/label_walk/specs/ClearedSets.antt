@@ -1,13 +1,13 @@
 -- The sets that include one of the numbers of a part are no longer marked: the numbers taken one after the other.
 use Rattle.std.specs.Prelude.{◌≡◌, refl, Bool, true, false, cond, not, ◌&&◌, ◌||◌, List, [], ◌∷◌, ◌++◌, ℕ, ◌+◌, ◌*◌, ◌≤◌, ◌<◌, length, get_or, take, drop}
 use Rattle.std.proofs.Common.{sym, ap, ◌∙◌, inr, add-one, arith, length-drop, take-suc, get_or-drop}
-use Rattle.list_laws.specs.TestLaws.{Tested, passes, fails, tested}
-use Rattle.list_laws.specs.Frames.{outside_same, outside_again}
-use Rattle.stores.specs.Stores.{includes}
-use Rattle.store_laws.specs.FactSetLaws.{within_le}
-use Rattle.store_laws.specs.StoreLaws.{includes_within}
-use Rattle.sheets.specs.SheetLimits.{max_facts}
-use Rattle.ordered_search.specs.OrderedSearch.{is_covered}
+use Rattle.set_digits.specs.TestLaws.{Tested, passes, fails, tested}
+use Rattle.set_digits.specs.Frames.{outside_same, outside_again}
+use Rattle.digit_lists.specs.Stores.{includes}
+use Rattle.set_digits.specs.FactSetLaws.{within_le}
+use Rattle.digit_lists.specs.StoreLaws.{includes_within}
+use Rattle.set_digits.specs.SheetLimits.{max_facts}
+use Rattle.set_digits.specs.OrderedSearch.{is_covered}
 use Rattle.set_digits.specs.SetDigits.{words_of, mark, Marked}
 use Rattle.label_walk.specs.LabelWalk.{numbers_at}
 use Rattle.label_walk.specs.SelectLaws.{any_append}

@@ -2,16 +2,16 @@
 use Rattle.std.specs.Prelude.{◌≡◌, Bool, true, false, not, ◌&&◌, ◌||◌, List, [], ◌++◌, ℕ, zero, suc, ◌+◌, ◌-◌, ◌^◌, ◌≤◌, ◌<◌, ltb, length}
 use Rattle.std.proofs.Math.Path.{refl}
 use Rattle.std.proofs.Common.{sym, ap, ap₂, ◌∙◌, append-nil, arith, add-one, length-append, ltb-true, ltb-false}
-use Rattle.lists.specs.Lists.{select}
-use Rattle.list_laws.specs.Members.{select_mem, any_mem}
-use Rattle.list_laws.specs.TestLaws.{Tested, passes, fails, tested, and_intro, or_left, or_right, not_passes}
-use Rattle.stores.specs.Stores.{includes}
-use Rattle.store_laws.specs.FactSetLaws.{within_refl}
-use Rattle.store_laws.specs.StoreLaws.{within_includes}
-use Rattle.sheets.specs.Sheet.{Sheet}
-use Rattle.ordered_search.specs.OrderedSearch.{fact_count, sets_of_size, is_covered, qualifies, candidates_below, search_over, search_below}
-use Rattle.search_laws.specs.CandidateLaws.{mem_size, size_mem}
-use Rattle.search_laws.specs.SearchLaws.{search_size}
+use Rattle.digit_lists.specs.Lists.{select}
+use Rattle.digit_lists.specs.Members.{select_mem, any_mem}
+use Rattle.set_digits.specs.TestLaws.{Tested, passes, fails, tested, and_intro, or_left, or_right, not_passes}
+use Rattle.digit_lists.specs.Stores.{includes}
+use Rattle.set_digits.specs.FactSetLaws.{within_refl}
+use Rattle.digit_lists.specs.StoreLaws.{within_includes}
+use Rattle.set_digits.specs.Sheet.{Sheet}
+use Rattle.set_digits.specs.OrderedSearch.{fact_count, sets_of_size, is_covered, qualifies, candidates_below, search_over, search_below}
+use Rattle.set_digits.specs.CandidateLaws.{mem_size, size_mem}
+use Rattle.set_digits.specs.SearchLaws.{search_size}
 use Rattle.label_walk.specs.LabelWalk.{found_below, found_in}
 use Rattle.label_walk.specs.SelectLaws.{select_alike, select_none, any_append}
 

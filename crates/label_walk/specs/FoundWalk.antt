@@ -1,16 +1,16 @@
 -- The walk before size k: what is found among the sets with fewer facts is listed, and the sets that include it are no longer marked.
 use Rattle.std.specs.Prelude.{◌≡◌, refl, Bool, true, false, cond, not, ◌&&◌, ℕ, suc, ◌+◌, ◌-◌, ◌*◌, ◌^◌, ◌≤◌, ◌<◌, eqb, ltb, length, take, drop}
-use Rattle.std.proofs.Common.{sym, ap, ◌∙◌, subst, inl, inr, arith, length-append, take-add, drop_drop, drop_at, eqb-true, eq_eqb, ltb-true, ltb-false}
+use Rattle.std.proofs.Common.{sym, ap, ◌∙◌, subst, inl, inr, arith, length-append, take-add, drop-drop, drop_at, eqb-true, eq-eqb, ltb-true, ltb-false}
 use mathlib.Core.List.Memᴰ
 use mathlib.Core.List.{List, [], ◌∷◌, ◌++◌, Memᴰ}
-use Rattle.list_laws.specs.TestLaws.{Tested, passes, fails, tested, true_false, and_intro}
-use Rattle.list_laws.specs.Members.{select_mem}
-use Rattle.list_laws.specs.Frames.{SameOutside, outside_same, outside_then, outside_part}
-use Rattle.stores.specs.Stores.{includes}
-use Rattle.moves.specs.Moves.{count_up}
-use Rattle.move_laws.specs.LabelLaws.{mem_count_up, count_up_mem}
-use Rattle.ordered_search.specs.OrderedSearch.{fact_count, is_covered}
-use Rattle.search_laws.specs.SizeLaws.{count_most}
+use Rattle.set_digits.specs.TestLaws.{Tested, passes, fails, tested, true_false, and_intro}
+use Rattle.digit_lists.specs.Members.{select_mem}
+use Rattle.set_digits.specs.Frames.{SameOutside, outside_same, outside_then, outside_part}
+use Rattle.digit_lists.specs.Stores.{includes}
+use Rattle.set_digits.specs.Moves.{count_up}
+use Rattle.set_digits.specs.LabelLaws.{mem_count_up, count_up_mem}
+use Rattle.set_digits.specs.OrderedSearch.{fact_count, is_covered}
+use Rattle.set_digits.specs.SizeLaws.{count_most}
 use Rattle.set_digits.specs.SetDigits.{words_of, mark}
 use Rattle.set_digits.specs.MarkedLaws.{marked_agree, words_sets}
 use Rattle.digit_lists.specs.DigitLists.{LeastSize, marked_of_size}
@@ -142,7 +142,7 @@ module _ (facts words left at : ℕ) (u : List ℕ) where
             let size : length (found k) ≡ n = sym walked.count in
             let parts : found k ++ numbers_at v (at + n) (m - n) ≡ found k ++ fresh =
             ap (λ (l : List ℕ). l ++ numbers_at v (at + n) (m - n)) (sym before)
-            ∙ ap (λ (l : List ℕ). take n (drop at v) ++ take (m - n) l) (sym (drop_drop n at v))
+            ∙ ap (λ (l : List ℕ). take n (drop at v) ++ take (m - n) l) (sym (drop-drop n at v))
             ∙ sym (take-add n (m - n) (drop at v))
             ∙ ap (λ (i : ℕ). take i (drop at v)) e ∙ whole in
             sym (drop_at (found k) (numbers_at v (at + n) (m - n)) n size) ∙ ap (drop n) parts ∙ drop_at (found k) fresh n size
@@ -202,7 +202,7 @@ module _ (facts words left at : ℕ) (u : List ℕ) where
             later : Tested (ltb r k) → k ≤ r
             later (passes t) =
                 true_false (is_covered (found k) s)
-                (found_covers (is_marked left u) facts k s inside (eq_eqb (mark u left s) 1 own.1) (omega (arith, size, ltb-true r k t))) own.0
+                (found_covers (is_marked left u) facts k s inside (eq-eqb (mark u left s) 1 own.1) (omega (arith, size, ltb-true r k t))) own.0
             later (fails t) = ltb-false r k t
 
             same : found r ≡ found k
@@ -229,7 +229,7 @@ module _ (facts words left at : ℕ) (u : List ℕ) where
                 mem_length (marked_of_size w left words r)
                 (select_mem (λ t. eqb (fact_count 16 t) r && eqb (mark w left t) 1) (count_up 0 (32 * words))
                 (count_up_mem (32 * words) 0 s (omega arith) (omega (arith, l)))
-                (and_intro (eq_eqb (fact_count 16 s) r (e)) (eq_eqb (mark w left s) 1 (m))))
+                (and_intro (eq-eqb (fact_count 16 s) r (e)) (eq-eqb (mark w left s) 1 (m))))
               where
                 mem_length : (xs : List ℕ) {a : ℕ} → Memᴰ a xs → 0 < length xs
                 mem_length [] i = absurd (Memᴰ.not-nil i)

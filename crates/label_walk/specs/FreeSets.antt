@@ -1,14 +1,14 @@
 -- How many sets include none of some sets: by one set, and by the sets that stay marked.
 use Rattle.std.specs.Prelude.{◌≡◌, refl, Bool, true, false, cond, not, ◌||◌, List, [], ◌∷◌, ℕ, ◌+◌, ◌-◌, ◌*◌, ◌^◌, ◌≤◌, ◌<◌, eqb, ltb, length}
 use Rattle.std.proofs.Common.{sym, ap, ◌∙◌, inr, arith, lt-ltb, le-ltb}
-use Rattle.lists.specs.Lists.{select}
-use Rattle.list_laws.specs.Frames.{outside_part}
-use Rattle.stores.specs.Stores.{includes}
-use Rattle.moves.specs.Moves.{count_up}
-use Rattle.move_laws.specs.LabelLaws.{mem_count_up, count_up_length}
-use Rattle.ordered_search.specs.OrderedSearch.{fact_count, is_covered}
-use Rattle.search_laws.specs.SizeLaws.{count_most}
-use Rattle.search_laws.specs.SupersetLaws.{supersets_count}
+use Rattle.digit_lists.specs.Lists.{select}
+use Rattle.set_digits.specs.Frames.{outside_part}
+use Rattle.digit_lists.specs.Stores.{includes}
+use Rattle.set_digits.specs.Moves.{count_up}
+use Rattle.set_digits.specs.LabelLaws.{mem_count_up, count_up_length}
+use Rattle.set_digits.specs.OrderedSearch.{fact_count, is_covered}
+use Rattle.set_digits.specs.SizeLaws.{count_most}
+use Rattle.set_digits.specs.SupersetLaws.{supersets_count}
 use Rattle.set_digits.specs.SetDigits.{bit, words_of, mark, Marked, marked_sets}
 use Rattle.set_digits.specs.MarkedLaws.{words_sets}
 use Rattle.digit_lists.specs.SizeSplit.{count_wider}

@@ -1,8 +1,8 @@
 -- Sets that pass a test come up by number of facts, then by number; those that include one found before are passed over.
 use Rattle.std.specs.Prelude.{◌≡◌, Bool, not, ◌&&◌, List, [], ◌++◌, ℕ, zero, suc, ◌+◌, ◌*◌, ◌^◌, ◌≤◌, ◌<◌, get_or, take, drop}
-use Rattle.lists.specs.Lists.{select}
-use Rattle.moves.specs.Moves.{count_up}
-use Rattle.ordered_search.specs.OrderedSearch.{sets_of_size, is_covered}
+use Rattle.digit_lists.specs.Lists.{select}
+use Rattle.set_digits.specs.Moves.{count_up}
+use Rattle.set_digits.specs.OrderedSearch.{sets_of_size, is_covered}
 use Rattle.set_digits.specs.SetDigits.{words_of, mark}
 
 -- what is found among the sets of n facts that have fewer than k of them

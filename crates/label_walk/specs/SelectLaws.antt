@@ -2,10 +2,10 @@
 use Rattle.std.specs.Prelude.{◌≡◌, refl, Bool, true, false, cond, not, ◌&&◌, ◌||◌, ℕ, suc, ◌+◌, ◌-◌, ◌≤◌, ◌<◌, length}
 use Rattle.std.proofs.Common.{ap, ap₂, ◌∙◌, arith}
 use mathlib.Core.List.{List, [], ◌∷◌, ◌++◌, append-nil, Memᴰ}
-use Rattle.lists.specs.Lists.{select, any}
-use Rattle.moves.specs.Moves.{count_up}
-use Rattle.move_laws.specs.LabelLaws.{mem_count_up, mem_count_up_from}
-use Rattle.search_laws.specs.SupersetLaws.{count_up_append, select_append}
+use Rattle.digit_lists.specs.Lists.{select, any}
+use Rattle.set_digits.specs.Moves.{count_up}
+use Rattle.set_digits.specs.LabelLaws.{mem_count_up, mem_count_up_from}
+use Rattle.set_digits.specs.SupersetLaws.{count_up_append, select_append}
 
 module _ {A : Type 0} where
   -- tests that agree on the elements select the same

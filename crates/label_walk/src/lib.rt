@@ -1,8 +1,10 @@
 // Marked sets come up, fewer facts first and the lower number on a tie; a set that includes one found before is passed over.
+#![tactic(auto)]
+
 ghost use Rattle.std.specs.Prelude.{◌≡◌, cond, [], ◌∷◌, ◌+◌, ◌*◌, ◌≤◌, ◌<◌, ◌^◌, length, get_or, eqb};
-ghost use Rattle.list_laws.specs.Frames.{SameOutside};
-ghost use Rattle.ordered_search.specs.OrderedSearch.{is_covered};
-ghost use Rattle.sheets.specs.SheetLimits.{max_facts};
+ghost use Rattle.set_digits.specs.Frames.{SameOutside};
+ghost use Rattle.set_digits.specs.OrderedSearch.{is_covered};
+ghost use Rattle.set_digits.specs.SheetLimits.{max_facts};
 ghost use Rattle.set_digits.specs.SetDigits.{words_of, mark, Marked};
 ghost use Rattle.label_walk.specs.LabelWalk.{found_in, numbers_at, SetsAt, NoneBeyond, free_sets, KeptBetween};
 

@@ -1,6 +1,8 @@
 // A report held to the levels of document 01's plain counterpart ("Rounds"), worked out over every configuration that the two
 // starts reach. Nothing but the sheet that was read is taken from the comparing call; what it returned and the members in its
 // answer bytes are what is checked. That the levels are document 01's is tried and not proved.
+#![tactic(auto)]
+
 mod classes;
 mod members;
 

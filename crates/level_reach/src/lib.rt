@@ -1,5 +1,7 @@
 // Every configuration that two starts of a sheet reach by adding any constraint and by reductions (document 01, "Rounds": the plain
 // counterpart), and the reductions, in the areas of one slice.
+#![tactic(auto)]
+
 mod constraints;
 mod intake;
 mod reductions;

@@ -1,6 +1,6 @@
 -- What a slot that was found says of the pair in it.
 use Rattle.std.specs.Prelude.{◌≡◌, refl, Bool, true, false, ◌&&◌, ◌||◌, List, ℕ, ◌+◌, ◌-◌, set, eqb}
-use Rattle.std.proofs.Common.{sym, ap, ◌∙◌, add-one, arith, eq_eqb, ne_eqb}
+use Rattle.std.proofs.Common.{sym, ap, ◌∙◌, add-one, arith, eq-eqb, ne_eqb}
 use Rattle.level_tables.specs.Numbers.{none, number_at}
 use Rattle.level_tables.specs.Pairs.{zeroed, settled_at, first_of, second_of, is_pair, Slot, no_slot, slot_at, Found, present, Entered, there, Appended, no_room, stored, full, new}
 
@@ -15,7 +15,7 @@ zeroed_next w from n = rw (add-one n)
 -- a free slot, and one that is not
 pub settled_free : (w : List ℕ) (base slot a b : ℕ) → number_at w slot ≡ 0 → settled_at w base slot a b ≡ true
 unfolding settled_at
-settled_free w base slot a b h = rw (settled_at, eq_eqb (number_at w slot) 0 h)
+settled_free w base slot a b h = rw (settled_at, eq-eqb (number_at w slot) 0 h)
 
 settled_taken : (w : List ℕ) (base slot a b : ℕ) → (number_at w slot ≡ 0 → ⊥) → settled_at w base slot a b ≡ is_pair w base a b (number_at w slot - 1)
 unfolding settled_at
@@ -23,7 +23,7 @@ settled_taken w base slot a b h = rw (settled_at, ne_eqb (number_at w slot) 0 h)
 
 module _ (w : List ℕ) (base slot a b : ℕ) {held : ℕ} (read : held ≡ number_at w slot) (taken : held ≡ 0 → ⊥) where
   pub settled_second : first_of w base (held - 1) ≡ a → settled_at w base slot a b ≡ eqb (second_of w base (held - 1)) b
-  settled_second e = settled_taken w base slot a b (λ z. taken (read ∙ z)) ∙ rw (← read, eq_eqb (first_of w base (held - 1)) a e)
+  settled_second e = settled_taken w base slot a b (λ z. taken (read ∙ z)) ∙ rw (← read, eq-eqb (first_of w base (held - 1)) a e)
 
   pub settled_not : (first_of w base (held - 1) ≡ a → ⊥) → settled_at w base slot a b ≡ false
   settled_not e = settled_taken w base slot a b (λ z. taken (read ∙ z)) ∙ rw (← read, ne_eqb (first_of w base (held - 1)) a e)

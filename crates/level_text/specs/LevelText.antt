@@ -1,6 +1,6 @@
 -- The words of the line that tells what the second checker found.
 use Rattle.std.specs.Prelude.{List, [], ◌∷◌, ℕ}
-use Rattle.printed_lines.specs.Lines.{line}
+use Rattle.text.specs.Lines.{line}
 use Rattle.level_check.specs.declared.Checked.{Checked}
 use Rattle.level_check.specs.declared.Checked.TheVariants.{Agree, TooLarge, Members, Places, Verdict, Round, Classes}
 

@@ -1,6 +1,8 @@
 // The line that tells what the second checker found of a report.
+#![tactic(auto)]
+
 ghost use Rattle.std.specs.Prelude.{[], ◌≤◌, length};
-ghost use Rattle.printed_lines.specs.Lines.{line};
+ghost use Rattle.text.specs.Lines.{line};
 ghost use Rattle.text.specs.Slices.{Written};
 ghost use Rattle.level_text.specs.LevelText.{checked_text};
 

@@ -1,4 +1,6 @@
 // The library's version as a number.
+#![tactic(auto)]
+
 ghost use Rattle.std.specs.Prelude.{◌≡◌};
 ghost use Rattle.library_version.specs.LibraryVersion.{library_version};
 

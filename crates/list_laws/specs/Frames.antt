@@ -1,6 +1,6 @@
 -- Two lists of one length that differ in a part only: what is left alone by code that stores in that part.
 use Rattle.std.specs.Prelude.{◌≡◌, refl, ◌⊎◌, Bool, true, false, List, ℕ, ◌+◌, ◌-◌, ◌≤◌, ◌<◌, length, get_or, set, take, drop, ltb}
-use Rattle.std.proofs.Common.{sym, ap, ◌∙◌, inl, inr, arith, length-set, length-take, length-drop, ltb-true, ltb-false, get_or_set_other, get_or_take, get_or-drop, ext_get_or}
+use Rattle.std.proofs.Common.{sym, ap, ◌∙◌, inl, inr, arith, length-set, length-take, length-drop, ltb-true, ltb-false, get_or-set_other, get_or-take, get_or-drop, ext_get_or}
 
 -- w has the length of v and its numbers below place a and from place b on
 pub record SameOutside (a b : ℕ) (v w : List ℕ) : Type 0 where
@@ -12,7 +12,7 @@ outside_same a b v = record { long = refl; at = λ i h. refl }
 
 -- one number stored inside the bounds
 pub outside_set : (a b : ℕ) (v : List ℕ) (i x : ℕ) → a ≤ i → i < b → SameOutside a b v (set v i x)
-outside_set a b v i x h k = record { long = length-set v i x; at = λ j o. get_or_set_other v i j x 0 (other j o) }
+outside_set a b v i x h k = record { long = length-set v i x; at = λ j o. get_or-set_other v i j x 0 (other j o) }
   where
     other : (j : ℕ) → (j < a) ⊎ (b ≤ j) → j ≡ i → ⊥
     other j (inl l) e = omega arith
@@ -39,7 +39,7 @@ pub outside_of_ends : (a b : ℕ) (v w : List ℕ) → length w ≡ length v →
 outside_of_ends a b v w l p q = record { long = l; at = go }
   where
     go : (i : ℕ) → (i < a) ⊎ (b ≤ i) → get_or w i 0 ≡ get_or v i 0
-    go i (inl h) = sym (get_or_take a w i 0 h) ∙ ap (λ (z : List ℕ). get_or z i 0) p ∙ get_or_take a v i 0 h
+    go i (inl h) = sym (get_or-take a w i 0 h) ∙ ap (λ (z : List ℕ). get_or z i 0) p ∙ get_or-take a v i 0 h
     go i (inr h) =
         let e : i ≡ b + (i - b) = omega arith in
         ap (λ (k : ℕ). get_or w k 0) e ∙ sym (get_or-drop b w (i - b) 0) ∙ ap (λ (z : List ℕ). get_or z (i - b) 0) q
@@ -51,7 +51,7 @@ module _ {a b : ℕ} {v w : List ℕ} (s : SameOutside a b v w) where
       ext_get_or 0 (take a w) (take a v) (simp length-take (omega (arith, s.long)))
       (λ i h.
       let l : i < a = omega (arith, h, length-take a w) in
-      get_or_take a w i 0 l ∙ s.at i (inl l) ∙ sym (get_or_take a v i 0 l))
+      get_or-take a w i 0 l ∙ s.at i (inl l) ∙ sym (get_or-take a v i 0 l))
 
   pub outside_drop : drop b w ≡ drop b v
   outside_drop =
@@ -64,8 +64,8 @@ module _ {a b : ℕ} {v w : List ℕ} (s : SameOutside a b v w) where
       ext_get_or 0 (take n (drop from w)) (take n (drop from v)) (simp (length-take, length-drop) (omega (arith, s.long)))
       (λ i h.
       let l : i < n = omega (arith, h, length-take n (drop from w)) in
-      get_or_take n (drop from w) i 0 l ∙ get_or-drop from w i 0 ∙ s.at (from + i) (go i l o) ∙ sym (get_or-drop from v i 0)
-      ∙ sym (get_or_take n (drop from v) i 0 l))
+      get_or-take n (drop from w) i 0 l ∙ get_or-drop from w i 0 ∙ s.at (from + i) (go i l o) ∙ sym (get_or-drop from v i 0)
+      ∙ sym (get_or-take n (drop from v) i 0 l))
     where
       go : (i : ℕ) → i < n → (from + n ≤ a) ⊎ (b ≤ from) → (from + i < a) ⊎ (b ≤ from + i)
       go i l (inl h) = inl (omega arith)
@@ -82,9 +82,9 @@ outside_whole n {a} {v} {w} s e = ext_get_or 0 w v s.long (λ i h. go i (ltb i a
         let h : a ≤ i = ltb-false i a p in
         let k : i < a + n = ltb-true i (a + n) r in
         let z : i ≡ a + (i - a) = omega arith in
-        ap (λ (m : ℕ). get_or w m 0) z ∙ sym (get_or-drop a w (i - a) 0) ∙ sym (get_or_take n (drop a w) (i - a) 0 (omega arith))
+        ap (λ (m : ℕ). get_or w m 0) z ∙ sym (get_or-drop a w (i - a) 0) ∙ sym (get_or-take n (drop a w) (i - a) 0 (omega arith))
         ∙ ap (λ (l : List ℕ). get_or l (i - a) 0) e
-        ∙ get_or_take n (drop a v) (i - a) 0 (omega arith) ∙ get_or-drop a v (i - a) 0 ∙ ap (λ (m : ℕ). get_or v m 0) (sym z)
+        ∙ get_or-take n (drop a v) (i - a) 0 (omega arith) ∙ get_or-drop a v (i - a) 0 ∙ ap (λ (m : ℕ). get_or v m 0) (sym z)
 
 -- two changes inside one pair of bounds
 pub outside_again : {a b : ℕ} {u v w : List ℕ} → SameOutside a b u v → SameOutside a b v w → SameOutside a b u w
@@ -99,8 +99,8 @@ part_same v w f e l h =
     go : (i : ℕ) → i < length (take (e - f) (drop f w)) → get_or (take (e - f) (drop f w)) i 0 ≡ get_or (take (e - f) (drop f v)) i 0
     go i k =
         let s : i < e - f = omega (arith, length-take (e - f) (drop f w)) in
-        get_or_take (e - f) (drop f w) i 0 s ∙ get_or-drop f w i 0 ∙ h (f + i) (omega arith) (omega arith)
-        ∙ sym (get_or_take (e - f) (drop f v) i 0 s ∙ get_or-drop f v i 0)
+        get_or-take (e - f) (drop f w) i 0 s ∙ get_or-drop f w i 0 ∙ h (f + i) (omega arith) (omega arith)
+        ∙ sym (get_or-take (e - f) (drop f v) i 0 s ∙ get_or-drop f v i 0)
 
 -- a part that lies outside the bounds is the same
 pub outside_between : {a b : ℕ} {v w : List ℕ} (f e : ℕ) → (e ≤ a) ⊎ (b ≤ f) → SameOutside a b v w

@@ -1,3 +1,4 @@
+pub use Rattle.lists.specs.Lists
 pub mod TestLaws
 pub mod Members
 pub mod AscendingLaws

@@ -1,6 +1,6 @@
 -- Membership in lists made by test, by map and by joining; decisions over a list.
 use Rattle.std.specs.Prelude.{◌≡◌, refl, Bool, true, false, cond, ◌&&◌, ◌||◌, ℕ, eqb}
-use Rattle.std.proofs.Common.{sym, ap, ap₂, ◌∙◌, subst, ⊎_elim, eqb-true, eq_eqb}
+use Rattle.std.proofs.Common.{sym, ap, ap₂, ◌∙◌, subst, ⊎_elim, eqb-true, eq-eqb}
 use mathlib.Core.List.{List, [], ◌∷◌, ◌++◌, map, Memᴰ}
 use Rattle.lists.specs.Lists.{select, any, all, concat_map, same_numbers}
 use Rattle.list_laws.specs.TestLaws.{true_false, and_left, and_right, and_intro}
@@ -86,7 +86,7 @@ module _ {A B : Type 0} (f : A → B) where
       ⊎_elim (λ (q : b ≡ f x). (x, mathlib.Core.List.Memᴰ.head refl, q))
       (λ (r : Memᴰ b (map f xs)). let i = mem_map xs r in (i.0, mathlib.Core.List.Memᴰ.tail i.1, i.2)) (mathlib.Core.List.Memᴰ.cases_cons m)
 
-  pub map_mem : {xs : List A} {a : A} → Memᴰ a xs → Memᴰ (f a) (map f xs)
+  pub map_mem : {a : A} {xs : List A} → Memᴰ a xs → Memᴰ (f a) (map f xs)
   map_mem (mathlib.Core.List.Memᴰ.head e) = mathlib.Core.List.Memᴰ.head (ap f e)
   map_mem (mathlib.Core.List.Memᴰ.tail m) = mathlib.Core.List.Memᴰ.tail (map_mem m)
 
@@ -113,4 +113,4 @@ same_equal (x ∷ xs) (y ∷ ys) h =
 
 pub equal_same : (xs : List ℕ) → same_numbers xs xs ≡ true
 equal_same [] = refl
-equal_same (x ∷ xs) = and_intro (eq_eqb x x refl) (equal_same xs)
+equal_same (x ∷ xs) = and_intro (eq-eqb x x refl) (equal_same xs)

@@ -1,7 +1,7 @@
 -- One element more at the end: of numbers in ascending order, where the order of insertion does not matter, and of lists
 -- that are joined.
 use Rattle.std.specs.Prelude.{◌≡◌, refl, Bool, true, false, cond, List, [], ◌∷◌, ◌++◌, ℕ, ◌+◌, ◌<◌, length, get_or, take, drop, leb}
-use Rattle.std.proofs.Common.{sym, ap, ◌∙◌, append-nil, append_assoc, arith, add-one, length-drop, take-suc, get_or-drop, leb-true, leb-false}
+use Rattle.std.proofs.Common.{sym, subst, ap, ◌∙◌, append-nil, append_assoc, arith, add-one, length-drop, take-suc, get_or-drop, leb-true, leb-false}
 use Rattle.std.proofs.Math.Seq.{append_snoc}
 use Rattle.std.proofs.lemmas.Bool.{lt-leb}
 use Rattle.lists.specs.Lists.{insert_up, sort_up, NotFalling, concat_map}
@@ -21,7 +21,7 @@ insert_up_comm a b (x ∷ xs) = go (insert_up_comm a b xs) (leb a x) (leb b x) (
         → insert_up a (insert_up b (x ∷ xs)) ≡ insert_up b (insert_up a (x ∷ xs))
     go ih true true true true e f g h =
         let s : a ≡ b = omega (arith, leb-true a b g, leb-true b a h) in
-        rw s
+        subst (λ (y : ℕ). insert_up y (insert_up b (x ∷ xs)) ≡ insert_up b (insert_up y (x ∷ xs))) (sym s) refl
     go ih true true true false e f g h = simp (e, f, g, h)
     go ih true true false true e f g h = simp (e, f, g, h)
     go ih true true false false e f g h = absurd (omega (arith, leb-false a b g, leb-false b a h))

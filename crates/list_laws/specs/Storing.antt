@@ -1,6 +1,6 @@
 -- Laws of a list stored into another from a place on.
 use Rattle.std.specs.Prelude.{◌≡◌, refl, List, [], ◌∷◌, ◌++◌, ℕ, suc, ◌+◌, ◌-◌, ◌≤◌, ◌<◌, length, get_or, set, take, drop}
-use Rattle.std.proofs.Common.{sym, ap, ◌∙◌, append_assoc, add-one, arith, length-take, length-drop, get_or_set_other, get_or-drop, take-suc, drop_at, length-take-le}
+use Rattle.std.proofs.Common.{sym, ap, ◌∙◌, append_assoc, add-one, arith, length-take, length-drop, get_or-set_other, get_or-drop, take-suc, drop_at, length-take-le}
 use Rattle.std.proofs.lemmas.List.Edits.{sets, sets-eq}
 use Rattle.std.proofs.lemmas.List.{drop-set-add, take-set-le}
 use Rattle.std.proofs.Math.Seq.{take-append_seam}
@@ -35,7 +35,7 @@ stored_part l at xs h =
 -- a number before the place stays
 pub get_d_sets : (l : List ℕ) (at : ℕ) (xs : List ℕ) (j : ℕ) → j < at → get_or (sets l at xs) j 0 ≡ get_or l j 0
 get_d_sets l at [] j h = refl
-get_d_sets l at (x ∷ xs) j h = get_d_sets (set l at x) (suc at) xs j (omega arith) ∙ get_or_set_other l at j x 0 (omega arith)
+get_d_sets l at (x ∷ xs) j h = get_d_sets (set l at x) (suc at) xs j (omega arith) ∙ get_or-set_other l at j x 0 (omega arith)
 
 -- a loop that copies numbers to a later place, from the i-th to the next
 pub copied_next : (l : List ℕ) (from to i : ℕ) → from + i < to → from + i < length l

@@ -9,7 +9,7 @@ use Prim.Native.Nat.{ℕ, zero, suc, ◌+◌, ◌-◌, ◌≤◌, ◌<◌}
 use native.Mathlib.Omega.{arith}
 use Rattle.std.proofs.Math.Dec.{ltb}
 use Rattle.std.proofs.Math.Seq.{append_snoc}
-use borrow.Author.Tests.{ltb-true, ltb-false, eqb-true, eq_eqb}
+use borrow.Author.Tests.{ltb-true, ltb-false, eqb-true, eq-eqb}
 use Rattle.list_laws.specs.TestLaws.{true_false}
 use Rattle.list_laws.specs.Tabulate.{tabulate, tabulate_next, tabulate_same, tabulate_length}
 use Rattle.lists.specs.Lists.{any, Distinct, no_elements, one_more, Ascends, none_left, then_rest, enter, place}
@@ -85,7 +85,7 @@ all_placed f n b h k l = go (any (eqb k) (tabulate f n)) refl
         let i = tabulate_mem f n a.1 in
         (i.0, i.1, eqb-true k a.0 a.2 ∙ i.2)
     go false e =
-        let apart : Memᴰ k (tabulate f n) → ⊥ = λ m. true_false (eqb k k) (eq_eqb k k refl) (any_no (eqb k) (tabulate f n) e m) in
+        let apart : Memᴰ k (tabulate f n) → ⊥ = λ m. true_false (eqb k k) (eq-eqb k k refl) (any_no (eqb k) (tabulate f n) e m) in
         let d : length (k ∷ tabulate f n) ≤ length (tabulate (λ i. i) n) =
         distinct_length (k ∷ tabulate f n) (tabulate (λ i. i) n) (one_more apart (distinct_tabulate f n h)) below in
         absurd (omega (arith, d, tabulate_length f n, tabulate_length {A = ℕ} (λ i. i) n))

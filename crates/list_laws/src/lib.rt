@@ -1,1 +1,2 @@
 // Lists, tests and orders: laws that the crates above cite. No functions.
+#![tactic(auto)]

@@ -1,1 +1,2 @@
 // Notions of lists that the definitions are written with. No functions.
+#![tactic(auto)]

@@ -1,21 +1,21 @@
 -- The moves of one member, all of them and no other, collected in the work slice.
 use Rattle.std.specs.Prelude.{◌≡◌, ℕ, ◌+◌, ◌<◌}
 use mathlib.Core.List.{List, [], Memᴰ}
-use Rattle.list_laws.specs.Frames.{SameOutside}
-use Rattle.sheets.specs.Sheet.{Node, Configuration}
-use Rattle.moves.specs.Orders.{Move}
-use Rattle.moves.specs.Moves.{moves}
-use Rattle.node_moves.specs.NodeMoves.{placed_moves}
-use Rattle.comparison.specs.Promise.{PassesLimit}
-use Rattle.collected_moves.specs.CollectedMoves.{Grown, moves_of}
-use Rattle.set_growth.specs.SetGrowth.{Growth, InHand, Gathered}
+use Rattle.nodes_to_visit.specs.Frames.{SameOutside}
+use Rattle.sheet_types.specs.Sheet.{Node, Configuration}
+use Rattle.nodes_to_visit.specs.Orders.{Move}
+use Rattle.nodes_to_visit.specs.Moves.{moves}
+use Rattle.threads_beside.specs.NodeMoves.{placed_moves}
+use Rattle.nodes_to_visit.specs.Promise.{PassesLimit}
+use Rattle.walk_state.specs.CollectedMoves.{Grown, moves_of}
+use Rattle.walk_state.specs.SetGrowth.{Growth, InHand, Gathered}
 use Rattle.threads_beside.specs.ThreadsBeside.{thread_at}
 use Rattle.walk_state.specs.declared.Basis.{Basis}
 use Rattle.walk_state.specs.declared.Walk.{Walk}
 use Rattle.walk_state.specs.declared.Walked.{Walked}
 use Rattle.walk_state.specs.declared.Walked.TheVariants.{On, Over}
 use Rattle.walk_state.specs.WalkState.{Walking, Covering, OnSheet}
-use Rattle.work_layout.specs.WorkLayout.{work_end, moves_at}
+use Rattle.nodes_to_visit.specs.WorkLayout.{work_end, moves_at}
 
 -- what was collected are moves of the member, and every move of the member is collected
 pub record Collected (g : Growth) (h : InHand g) (b : Basis) (w : List ℕ) (t : Walk) : Type 0 where

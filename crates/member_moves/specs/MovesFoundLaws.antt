@@ -1,26 +1,26 @@
 -- Why the walks of a member's threads find its moves: what a thread gives beside the others are moves of the member, an equal
 -- thread gives the same, and every move of the member is given by a thread.
 use Rattle.std.specs.Prelude.{◌≡◌, refl, Bool, true, false, ℕ, ◌+◌, ◌-◌, ◌≤◌, ◌<◌, length, get_or, eqb}
-use Rattle.std.proofs.Common.{sym, ap, ◌∙◌, subst, inl, inr, arith, get_or_take, eqb-true}
+use Rattle.std.proofs.Common.{sym, ap, ◌∙◌, subst, inl, inr, arith, get_or-take, eqb-true}
 use mathlib.Core.List.Memᴰ
 use mathlib.Core.List.{List, [], ◌∷◌, ◌++◌, map, Memᴰ}
 use Rattle.std.proofs.lemmas.Bool.{eqb-false}
-use Rattle.list_laws.specs.Frames.{SameOutside, outside_wider, outside_again}
-use Rattle.list_laws.specs.ListPlaces.{get_d_in}
-use Rattle.list_laws.specs.Tabulate.{tabulate_none}
-use Rattle.sheets.specs.Sheet.{Node, Configuration}
-use Rattle.moves.specs.Orders.{Move}
-use Rattle.moves.specs.Moves.{moves}
-use Rattle.node_moves.specs.NodeMoves.{NodeBeside, placed_moves}
-use Rattle.node_moves.specs.NodeMoveLaws.{move_by_thread}
-use Rattle.node_moves.specs.ThreadLaws.{rest_without, rest_without_same, rest_without_ascends, rest_without_length, rest_without_only}
+use Rattle.nodes_to_visit.specs.Frames.{SameOutside, outside_wider, outside_again}
+use Rattle.nodes_to_visit.specs.ListPlaces.{get_d_in}
+use Rattle.sheet_types.specs.Tabulate.{tabulate_none}
+use Rattle.sheet_types.specs.Sheet.{Node, Configuration}
+use Rattle.nodes_to_visit.specs.Orders.{Move}
+use Rattle.nodes_to_visit.specs.Moves.{moves}
+use Rattle.threads_beside.specs.NodeMoves.{NodeBeside, placed_moves}
+use Rattle.threads_beside.specs.NodeMoveLaws.{move_by_thread}
+use Rattle.threads_beside.specs.ThreadLaws.{rest_without, rest_without_same, rest_without_ascends, rest_without_length, rest_without_only}
 use Rattle.sheet_types.specs.declared.Configuration as held
 use Rattle.sheet_types.specs.HeldSheet.{configuration}
-use Rattle.member_table.specs.MemberTable.{member_in, members_in, part_at}
-use Rattle.collected_moves.specs.CollectedMoves.{Grown, moves_of}
-use Rattle.collected_moves.specs.CollectedLaws.{grown_refl, grown_trans}
-use Rattle.set_growth.specs.SetGrowth.{Growth, InHand, Gathered}
-use Rattle.set_growth.specs.SetGrowthLaws.{gathered_same}
+use Rattle.node_walk.specs.MemberTable.{member_in, members_in, part_at}
+use Rattle.walk_state.specs.CollectedMoves.{Grown, moves_of}
+use Rattle.walk_state.specs.CollectedLaws.{grown_refl, grown_trans}
+use Rattle.walk_state.specs.SetGrowth.{Growth, InHand, Gathered}
+use Rattle.walk_state.specs.SetGrowthLaws.{gathered_same}
 use Rattle.threads_beside.specs.ThreadsBeside.{placed, thread_at}
 use Rattle.nodes_to_visit.specs.NodesToVisit.{pending_one, pending_in, Pushed}
 use Rattle.nodes_to_visit.specs.NodesToVisitLaws.{pushed_all}
@@ -33,8 +33,8 @@ use Rattle.walk_state.specs.NotedInWalk.{grown_sheet}
 use Rattle.walk_state.specs.PushedInWalk.{topped, pushed_walking, stored_members, stored_moves, stored_marks, stored_grown}
 use Rattle.node_walk.specs.NodeVisits.{WalkedOn, WalkedAs}
 use Rattle.member_moves.specs.MovesFound.{FoundOn, FoundOver, FoundBelow, NextOn, NextOver, NextFound}
-use Rattle.work_layout.specs.WorkLayout.{marks_at, pending_at, pending_end}
-use Rattle.sheets.specs.SheetLimits.{max_nodes}
+use Rattle.nodes_to_visit.specs.WorkLayout.{marks_at, pending_at, pending_end}
+use Rattle.sheet_types.specs.SheetLimits.{max_nodes}
 
 -- ---- threads of the member
 module _ {b : Basis} {e : Configuration} (fit : MemberFits b e) (i : ℕ) (l : i < length e.threads) where
@@ -193,12 +193,12 @@ module _ {rank : ℕ → ℕ} (nodes : List Node) {b : Basis} {v : List ℕ} {s 
 module _ (e : held.Configuration) (i : ℕ) (l : i < e.count) where
   -- a thread at one of the places counted
   pub counted_thread : get_or (configuration e).threads i 0 ≡ get_or e.threads i 0
-  counted_thread = get_or_take e.count e.threads i 0 l
+  counted_thread = get_or-take e.count e.threads i 0 l
 
   -- equal neighbours
   pub counted_same : get_or e.threads (i - 1) 0 ≡ get_or e.threads i 0
       → get_or (configuration e).threads (i - 1) 0 ≡ get_or (configuration e).threads i 0
-  counted_same q = get_or_take e.count e.threads (i - 1) 0 (omega arith) ∙ q ∙ sym counted_thread
+  counted_same q = get_or-take e.count e.threads (i - 1) 0 (omega arith) ∙ q ∙ sym counted_thread
 
 -- the thread stored with the rest beside it
 pub pushed_thread : {v u : List ℕ} {x y : NodeBeside} → x ≡ y → Pushed v 0 x u → Pushed v 0 y u

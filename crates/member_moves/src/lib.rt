@@ -1,8 +1,10 @@
 // The moves of one member: a walk for each of its threads, with the others beside it.
+#![tactic(auto)]
+
 ghost use Rattle.std.specs.Prelude.{◌≡◌, ◌≤◌, ◌<◌};
 ghost use Rattle.sheet_types.specs.NodeTable.{nodes_of};
 ghost use Rattle.sheet_types.specs.HeldSheet.{configuration, nodes_in};
-ghost use Rattle.sheet_laws.specs.Ranks.{rank_of};
+ghost use Rattle.threads_beside.specs.Ranks.{rank_of};
 ghost use Rattle.walk_state.specs.WalkState.{NodesLent, MemberFits, Walking};
 ghost use Rattle.member_moves.specs.MovesFound.{MovesFound, NextFound};
 

@@ -2,10 +2,10 @@
 use Rattle.std.specs.Prelude.{◌≡◌, ◌⊎◌, ℕ, ◌+◌, ◌≤◌, ◌<◌}
 use Rattle.std.proofs.Common.{subst}
 use mathlib.Core.List.{List, Memᴰ}
-use Rattle.lists.specs.Lists.{enter}
-use Rattle.list_laws.specs.Frames.{SameOutside}
-use Rattle.sheets.specs.Sheet.{Configuration}
-use Rattle.moves.specs.Orders.{configuration_before}
+use Rattle.move_laws.specs.Lists.{enter}
+use Rattle.packing.specs.Frames.{SameOutside}
+use Rattle.move_laws.specs.Sheet.{Configuration}
+use Rattle.packing.specs.Orders.{configuration_before}
 use Rattle.member_table.specs.declared.Entry.{Entry}
 use Rattle.member_table.specs.declared.Entry.TheVariants.{Member, Full}
 use Rattle.member_table.specs.MemberTable.{member_in, id_in, members_in, ordered_in, Kept}

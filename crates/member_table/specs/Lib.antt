@@ -1,3 +1,15 @@
+pub use Rattle.move_laws.specs.FactSetLaws
+pub use Rattle.packing.specs.Moves
+pub use Rattle.move_laws.specs.OpeningLaws
+pub use Rattle.move_laws.specs.OrderLaws
+pub use Rattle.packing.specs.Orders
+pub use Rattle.packing.specs.Packing
+pub use Rattle.move_laws.specs.Ranks
+pub use Rattle.move_laws.specs.ReadingLaws
+pub use Rattle.move_laws.specs.Sheet
+pub use Rattle.move_laws.specs.SheetLimits
+pub use Rattle.move_laws.specs.StoreLaws
+pub use Rattle.work_layout.specs.WorkLayout
 pub mod MemberTable
 pub mod EntryFound
 pub mod MemberLaws

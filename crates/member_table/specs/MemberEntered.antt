@@ -1,20 +1,20 @@
 -- One member more, by discovery and in the order.
 use Rattle.std.specs.Prelude.{◌≡◌, refl, ◌⊎◌, Bool, true, false, ℕ, ◌+◌, ◌*◌, ◌-◌, ◌≤◌, ◌<◌, length, get_or, set, drop, ltb}
-use Rattle.std.proofs.Common.{sym, ap, ap₂, ◌∙◌, subst, inl, inr, arith, length-set, get_or-set_same, get_or_set_other, drop-set-lt, ltb-true, ltb-false}
+use Rattle.std.proofs.Common.{sym, ap, ap₂, ◌∙◌, subst, inl, inr, arith, length-set, get_or-set_same, get_or-set_other, drop-set-lt, ltb-true, ltb-false}
 use mathlib.Core.List.{List, Memᴰ}
-use Rattle.list_laws.specs.Tabulate.{tabulate_same}
-use Rattle.list_laws.specs.TabulateLaws.{enter_tabulate, enter_there, mem_tabulate}
-use Rattle.lists.specs.Lists.{Ascends, enter}
-use Rattle.list_laws.specs.AscendingLaws.{enter_ascends}
-use Rattle.list_laws.specs.Frames.{outside_same, outside_of_ends}
-use Rattle.sheets.specs.Sheet.{Configuration}
-use Rattle.moves.specs.Orders.{configuration_before}
+use Rattle.packing.specs.Tabulate.{tabulate_same}
+use Rattle.packing.specs.TabulateLaws.{enter_tabulate, enter_there, mem_tabulate}
+use Rattle.move_laws.specs.Lists.{Ascends, enter}
+use Rattle.packing.specs.AscendingLaws.{enter_ascends}
+use Rattle.packing.specs.Frames.{outside_same, outside_of_ends}
+use Rattle.move_laws.specs.Sheet.{Configuration}
+use Rattle.packing.specs.Orders.{configuration_before}
 use Rattle.move_laws.specs.OrderLaws.{configuration_order}
 use Rattle.packing.specs.declared.Numbers.{Numbers}
 use Rattle.packing.specs.Packing.{unpacked, stands_for, PackedIn}
 use Rattle.member_table.specs.MemberTable.{numbers_in, member_in, id_in, placed_in, members_in, ordered_in, Kept}
 use Rattle.member_table.specs.MemberSearch.{Placed}
-use Rattle.list_laws.specs.RaisedNumbers.{Raised, raised_behind}
+use Rattle.packing.specs.RaisedNumbers.{Raised, raised_behind}
 use Rattle.member_table.specs.MemberLaws.{ordered_in_lem}
 use Rattle.member_table.specs.EntryFound.{EnteredIn}
 use Rattle.work_layout.specs.WorkLayout.{table_ids, table_length, member_room}
@@ -36,20 +36,20 @@ pub record PutIn (v : List ℕ) (n at : ℕ) (x : Numbers) (w : List ℕ) : Type
 module _ (u : List ℕ) (n : ℕ) (x : Numbers) where
   key_other : (k : ℕ) → (k < 3 * n) ⊎ (3 * n + 3 ≤ k) → get_or (put_key u n x) k 0 ≡ get_or u k 0
   key_other k (inl h) =
-      get_or_set_other (set (set u (3 * n) x.a) (3 * n + 1) x.b) (3 * n + 2) k x.c 0 (omega arith)
-      ∙ get_or_set_other (set u (3 * n) x.a) (3 * n + 1) k x.b 0 (omega arith)
-      ∙ get_or_set_other u (3 * n) k x.a 0 (omega arith)
+      get_or-set_other (set (set u (3 * n) x.a) (3 * n + 1) x.b) (3 * n + 2) k x.c 0 (omega arith)
+      ∙ get_or-set_other (set u (3 * n) x.a) (3 * n + 1) k x.b 0 (omega arith)
+      ∙ get_or-set_other u (3 * n) k x.a 0 (omega arith)
   key_other k (inr h) =
-      get_or_set_other (set (set u (3 * n) x.a) (3 * n + 1) x.b) (3 * n + 2) k x.c 0 (omega arith)
-      ∙ get_or_set_other (set u (3 * n) x.a) (3 * n + 1) k x.b 0 (omega arith)
-      ∙ get_or_set_other u (3 * n) k x.a 0 (omega arith)
+      get_or-set_other (set (set u (3 * n) x.a) (3 * n + 1) x.b) (3 * n + 2) k x.c 0 (omega arith)
+      ∙ get_or-set_other (set u (3 * n) x.a) (3 * n + 1) k x.b 0 (omega arith)
+      ∙ get_or-set_other u (3 * n) k x.a 0 (omega arith)
 
   key_same : 3 * n + 3 ≤ length u
       → (get_or (put_key u n x) (3 * n) 0 ≡ x.a) × (get_or (put_key u n x) (3 * n + 1) 0 ≡ x.b) × (get_or (put_key u n x) (3 * n + 2) 0 ≡ x.c)
   key_same h = (
-    get_or_set_other (set (set u (3 * n) x.a) (3 * n + 1) x.b) (3 * n + 2) (3 * n) x.c 0 (omega arith)
-        ∙ get_or_set_other (set u (3 * n) x.a) (3 * n + 1) (3 * n) x.b 0 (omega arith) ∙ get_or-set_same u (3 * n) x.a 0 (omega arith),
-    get_or_set_other (set (set u (3 * n) x.a) (3 * n + 1) x.b) (3 * n + 2) (3 * n + 1) x.c 0 (omega arith)
+    get_or-set_other (set (set u (3 * n) x.a) (3 * n + 1) x.b) (3 * n + 2) (3 * n) x.c 0 (omega arith)
+        ∙ get_or-set_other (set u (3 * n) x.a) (3 * n + 1) (3 * n) x.b 0 (omega arith) ∙ get_or-set_same u (3 * n) x.a 0 (omega arith),
+    get_or-set_other (set (set u (3 * n) x.a) (3 * n + 1) x.b) (3 * n + 2) (3 * n + 1) x.c 0 (omega arith)
         ∙ get_or-set_same (set u (3 * n) x.a) (3 * n + 1) x.b 0 (simp length-set (omega arith)),
     get_or-set_same (set (set u (3 * n) x.a) (3 * n + 1) x.b) (3 * n + 2) x.c 0 (simp length-set (omega arith)),
   )
@@ -71,13 +71,13 @@ put_in v u n at x r h k l =
     let s : length t ≡ length v = length-set u (table_ids + at) n ∙ r.long in
     record {
       earlier = λ j m.
-          key_other t n x (table_ids + j) (inr (omega arith)) ∙ get_or_set_other u (table_ids + at) (table_ids + j) n 0 (omega arith) ∙ r.low (table_ids + j) (omega arith);
+          key_other t n x (table_ids + j) (inr (omega arith)) ∙ get_or-set_other u (table_ids + at) (table_ids + j) n 0 (omega arith) ∙ r.low (table_ids + j) (omega arith);
       here = key_other t n x (table_ids + at) (inr (omega arith)) ∙ get_or-set_same u (table_ids + at) n 0 (omega (arith, r.long));
       later = λ j m i.
           let q : table_ids + (j + 1) ≡ table_ids + j + 1 = omega arith in
-          key_other t n x (table_ids + (j + 1)) (inr (omega arith)) ∙ get_or_set_other u (table_ids + at) (table_ids + (j + 1)) n 0 (omega arith)
+          key_other t n x (table_ids + (j + 1)) (inr (omega arith)) ∙ get_or-set_other u (table_ids + at) (table_ids + (j + 1)) n 0 (omega arith)
           ∙ ap (λ (z : ℕ). get_or u z 0) q ∙ r.moved (table_ids + j) (omega arith) (omega arith);
-      keys = λ i m. key_other t n x i (inl m) ∙ get_or_set_other u (table_ids + at) i n 0 (omega arith) ∙ r.low i (omega arith);
+      keys = λ i m. key_other t n x i (inl m) ∙ get_or-set_other u (table_ids + at) i n 0 (omega arith) ∙ r.low i (omega arith);
       key = key_same t n x (omega arith);
       rest =
           key_rest t n x table_length (omega arith) ∙ drop-set-lt table_length u (table_ids + at) n (omega arith) ∙ raised_behind r table_length (omega arith);

@@ -2,13 +2,13 @@
 use Rattle.std.specs.Prelude.{◌≡◌, ◌⊎◌, ℕ, ◌+◌, ◌*◌, ◌≤◌, ◌<◌, length, get_or}
 use Rattle.std.proofs.Common.{sym, ap, ap₂, ◌∙◌, subst, inl, inr, ⊎_elim, arith}
 use mathlib.Core.List.{List, Memᴰ}
-use Rattle.list_laws.specs.Tabulate.{tabulate_none, tabulate_same}
-use Rattle.list_laws.specs.TabulateLaws.{mem_tabulate, tabulate_mem, distinct_tabulate, all_placed, ascends_apart}
-use Rattle.lists.specs.Lists.{Distinct, Ascends, none_left}
-use Rattle.list_laws.specs.AscendingLaws.{enter_keeps, enter_only}
-use Rattle.sheets.specs.Sheet.{Configuration}
+use Rattle.packing.specs.Tabulate.{tabulate_none, tabulate_same}
+use Rattle.packing.specs.TabulateLaws.{mem_tabulate, tabulate_mem, distinct_tabulate, all_placed, ascends_apart}
+use Rattle.move_laws.specs.Lists.{Distinct, Ascends, none_left}
+use Rattle.packing.specs.AscendingLaws.{enter_keeps, enter_only}
+use Rattle.move_laws.specs.Sheet.{Configuration}
 use Rattle.move_laws.specs.OrderLaws.{configuration_order}
-use Rattle.moves.specs.Orders.{configuration_before}
+use Rattle.packing.specs.Orders.{configuration_before}
 use Rattle.packing.specs.Packing.{unpacked}
 use Rattle.member_table.specs.MemberTable.{member_in, id_in, placed_in, members_in, ordered_in, Kept}
 use Rattle.member_table.specs.EntryFound.{EnteredIn}

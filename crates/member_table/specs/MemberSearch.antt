@@ -1,17 +1,17 @@
 -- A place in the order, found by halving.
 use Rattle.std.specs.Prelude.{◌≡◌, refl, Bool, true, false, List, ℕ, ◌+◌, ◌≤◌, ◌<◌}
 use Rattle.std.proofs.Common.{sym, ap, ◌∙◌, arith}
-use Rattle.list_laws.specs.TestLaws.{true_false}
-use Rattle.list_laws.specs.Halving.{Halving, halving_first, halving_upper, halving_lower, halving_last}
-use Rattle.sheets.specs.Sheet.{Configuration}
-use Rattle.moves.specs.Orders.{configuration_before}
+use Rattle.packing.specs.TestLaws.{true_false}
+use Rattle.packing.specs.Halving.{Halving, halving_first, halving_upper, halving_lower, halving_last}
+use Rattle.move_laws.specs.Sheet.{Configuration}
+use Rattle.packing.specs.Orders.{configuration_before}
 use Rattle.move_laws.specs.OrderLaws.{configuration_order}
 use Rattle.packing.specs.declared.Numbers.{Numbers}
 use Rattle.packing.specs.Packing.{side_of, stands_for, PackedIn}
 use Rattle.packing.specs.Comparing.{compared}
 use Rattle.packing.specs.PackingLaws.{side_before, side_same, side_after, numbers_side}
 use Rattle.member_table.specs.MemberTable.{numbers_in, id_in, placed_in, Kept}
-use Rattle.list_laws.specs.TabulateLaws.{ascends_at}
+use Rattle.packing.specs.TabulateLaws.{ascends_at}
 
 -- the side of the member at place j, whose id is i
 pub side_at : (w : List ℕ) (n j i : ℕ) (x key : Numbers) (r : ℕ) → Kept w n → PackedIn x → j < n → i ≡ id_in w j → key ≡ numbers_in w i

@@ -1,10 +1,10 @@
 -- How the members of a set stand in a lent slice: member i, in order of discovery, has three numbers from 3 i on, and from
 -- table_ids on stand the members' ids in ascending order of configuration.
 use Rattle.std.specs.Prelude.{List, ℕ, ◌+◌, ◌*◌, ◌≤◌, ◌<◌, length, get_or, take, drop}
-use Rattle.list_laws.specs.Tabulate.{tabulate}
-use Rattle.lists.specs.Lists.{Ascends}
-use Rattle.sheets.specs.Sheet.{Configuration}
-use Rattle.moves.specs.Orders.{configuration_before}
+use Rattle.packing.specs.Tabulate.{tabulate}
+use Rattle.move_laws.specs.Lists.{Ascends}
+use Rattle.move_laws.specs.Sheet.{Configuration}
+use Rattle.packing.specs.Orders.{configuration_before}
 use Rattle.packing.specs.declared.Numbers.{Numbers}
 use Rattle.packing.specs.Packing.{stands_for, PackedIn}
 use Rattle.work_layout.specs.WorkLayout.{table_ids, table_length, member_room}

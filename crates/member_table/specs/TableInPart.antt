@@ -2,8 +2,8 @@
 use Rattle.std.specs.Prelude.{◌≡◌, ◌⊎◌, List, ◌++◌, ℕ, ◌+◌, ◌-◌, ◌≤◌, ◌<◌, length, take, drop}
 use Rattle.std.proofs.Common.{sym, ap, ◌∙◌, subst, arith, length-append, length-take, length-drop, drop_at, take_at, length-take-le}
 use borrow.Rule.Slice.PartMut.{put_mid, mid_of, post_of, mid_len, take_put, drop_put}
-use Rattle.list_laws.specs.Frames.{SameOutside, outside_of_ends, outside_part, outside_whole}
-use Rattle.sheets.specs.Sheet.{Configuration}
+use Rattle.packing.specs.Frames.{SameOutside, outside_of_ends, outside_part, outside_whole}
+use Rattle.move_laws.specs.Sheet.{Configuration}
 use Rattle.packing.specs.declared.Numbers.{Numbers}
 use Rattle.packing.specs.Packing.{stands_for, PackedIn}
 use Rattle.member_table.specs.declared.Entry.{Entry}

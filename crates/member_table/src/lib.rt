@@ -1,7 +1,9 @@
 // The members of a set in a lent slice: kept in order of discovery, found by halving in ascending order.
+#![tactic(auto)]
+
 ghost use Rattle.std.specs.Prelude.{◌≡◌, ◌+◌, ◌*◌, ◌≤◌, ◌<◌, length};
-ghost use Rattle.list_laws.specs.Frames.{SameOutside};
-ghost use Rattle.moves.specs.Orders.{configuration_before};
+ghost use Rattle.packing.specs.Frames.{SameOutside};
+ghost use Rattle.packing.specs.Orders.{configuration_before};
 ghost use Rattle.work_layout.specs.WorkLayout.{table_length, member_room};
 ghost use Rattle.packing.specs.Packing.{side_of, stands_for, PackedIn};
 ghost use Rattle.member_table.specs.MemberTable.{numbers_in, member_in, id_in, placed_in, Kept, part_at};

@@ -1,6 +1,6 @@
 -- Marks of nodes: 1 for each node that can move, else 0.
 use Rattle.std.specs.Prelude.{◌≡◌, Bool, cond, List, ℕ, ◌<◌, get_or, eqb}
-use Rattle.sheets.specs.Sheet.{Node}
+use Rattle.sheet_types.specs.Sheet.{Node}
 use Rattle.node_moves.specs.NodeMoves.{movable_of, movable}
 
 -- the mark of a test

@@ -1,12 +1,12 @@
 -- Laws of the marks of marks: the mark of a node by its kind, and one mark more.
 use Rattle.std.specs.Prelude.{◌≡◌, refl, Bool, true, false, cond, List, [], ◌∷◌, ◌++◌, ℕ, zero, suc, ◌+◌, ◌<◌, length, get_or, set, eqb, ltb}
-use Rattle.std.proofs.Common.{sym, ap, ◌∙◌, arith, length-append, get_or-set_same, get_or_set_other, eq_eqb, ne_eqb, ltb-true, ltb-false}
+use Rattle.std.proofs.Common.{sym, ap, ◌∙◌, arith, length-append, get_or-set_same, get_or-set_other, eq-eqb, ne_eqb, ltb-true, ltb-false}
 use Rattle.std.proofs.Math.ListN.{get_or-append}
 use Rattle.std.proofs.Math.Seq.{get_or-append_seam}
-use Rattle.list_laws.specs.TestLaws.{Tested, passes, fails, tested}
-use Rattle.sheets.specs.Sheet.{Node, stop, tell, ask, both, either, node_of}
-use Rattle.sheet_laws.specs.Ranks.{Part, Ranked, rank_of, parts_map}
-use Rattle.sheet_laws.specs.OpeningLaws.{LowerNames, ranked_next}
+use Rattle.sheet_types.specs.TestLaws.{Tested, passes, fails, tested}
+use Rattle.sheet_types.specs.Sheet.{Node, stop, tell, ask, both, either, node_of}
+use Rattle.node_opening.specs.Ranks.{Part, Ranked, rank_of, parts_map}
+use Rattle.node_opening.specs.OpeningLaws.{LowerNames, ranked_next}
 use Rattle.sheet_types.specs.HeldSheet.{node_held}
 use Rattle.node_moves.specs.NodeMoves.{movable_of, movable}
 use Rattle.node_moves.specs.NodeMoveLaws.{movable_same, movable_is}
@@ -15,10 +15,10 @@ use Rattle.movable_nodes.specs.Movability.{mark, marked, mark_for, MovableHeld}
 -- ---- the mark of two parts
 module _ (marks : List ℕ) (p q : ℕ) where
   pub first_marked : get_or marks p 0 ≡ 1 → 1 ≡ mark_for marks (either p q)
-  first_marked h = simp (eq_eqb _ _ h)
+  first_marked h = simp (eq-eqb _ _ h)
 
   pub second_marked : (get_or marks p 0 ≡ 1 → ⊥) → get_or marks q 0 ≡ 1 → 1 ≡ mark_for marks (either p q)
-  second_marked a h = simp (ne_eqb _ _ a, eq_eqb _ _ h)
+  second_marked a h = simp (ne_eqb _ _ a, eq-eqb _ _ h)
 
   pub none_marked_lem : (get_or marks p 0 ≡ 1 → ⊥) → (get_or marks q 0 ≡ 1 → ⊥) → 0 ≡ mark_for marks (either p q)
   none_marked_lem a b = simp (ne_eqb _ _ a, ne_eqb _ _ b)
@@ -95,7 +95,7 @@ module _ (ns : List Node) (n : Node) (marks : List ℕ) (low : Ranked rank_of ns
           → get_or (set marks (length ns) (mark_for marks n)) k 0 ≡ cond (movable (ns ++ (n ∷ [])) k) 1 0
       go k l (passes t) =
           let h = ltb-true k (length ns) t in
-          get_or_set_other marks (length ns) k (mark_for marks n) 0 (omega arith)
+          get_or-set_other marks (length ns) k (mark_for marks n) 0 (omega arith)
           ∙ held.at k h
           ∙ ap mark (sym (movable_prefix ns (n ∷ []) low next_ranked k h))
       go k l (fails t) =

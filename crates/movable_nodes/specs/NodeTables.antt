@@ -1,6 +1,6 @@
 -- The table of nodes, filled: what each node opens to, and which nodes can move.
 use Rattle.std.specs.Prelude.{List, ℕ, length}
-use Rattle.sheets.specs.Sheet.{Node}
+use Rattle.sheet_types.specs.Sheet.{Node}
 use Rattle.sheet_types.specs.NodeTable.{opened_of, movables_of}
 use Rattle.node_opening.specs.OpenedNodes.{OpenedTable}
 use Rattle.movable_nodes.specs.Movability.{MovableHeld}

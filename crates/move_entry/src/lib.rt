@@ -1,4 +1,6 @@
 // A move of the member in hand is noted: its target entered as a member, the move put among those collected, each once.
+#![tactic(auto)]
+
 ghost use Rattle.std.specs.Prelude.{◌≡◌};
 ghost use Rattle.packing.specs.Packing.{stands_for, PackedIn};
 ghost use Rattle.collected_moves.specs.CollectedMoves.{Collecting, NotedAs, EnteredAs};

@@ -2,7 +2,7 @@
 -- constraint is strictly below one. Where the store entails the asked set there is one label; there are never more than half of the sets, and one.
 use Rattle.std.specs.Prelude.{◌≡◌, ◌⊎◌, true, false, cond, not, ◌&&◌, length, eqb, leb}
 use Rattle.std.proofs.Math.Path.{refl}
-use Rattle.std.proofs.Common.{sym, ap, ◌∙◌, subst, inl, inr, ⊎_elim, arith, pow_pos, eqb-true, eq_eqb, lt-ltb, leb-true, leb-false}
+use Rattle.std.proofs.Common.{sym, ap, ◌∙◌, subst, inl, inr, ⊎_elim, arith, pow_pos, eqb-true, eq-eqb, lt-ltb, leb-true, leb-false}
 use Rattle.std.proofs.Math.Bool.{Bool}
 use mathlib.Core.List.Memᴰ
 use mathlib.Core.List.{List, [], ◌∷◌, map, Memᴰ}
@@ -10,16 +10,16 @@ use Prim.Native.Nat.{ℕ, zero, suc, ◌+◌, ◌/◌, ◌%◌, ◌^◌, ◌≤�
 use Rattle.std.specs.Int.Bits.{bit_and, and_step, and_self}
 use Rattle.std.proofs.lemmas.Nat.{and_comm}
 use Rattle.std.proofs.lemmas.Bool.{eqb-false, not-true}
-use Rattle.list_laws.specs.TestLaws.{true_false, and_left, and_right, and_intro, not_passes}
-use Rattle.lists.specs.Lists.{select, any, Ascends, none_left, then_rest, Distinct, no_elements, one_more}
-use Rattle.list_laws.specs.Members.{mem_select, select_mem, any_yes, any_no, mem_map}
-use Rattle.list_laws.specs.AscendingLaws.{number_order, select_ascends}
-use Rattle.list_laws.specs.Counting.{distinct_length, distinct_map_on}
-use Rattle.stores.specs.FactSets.{Within}
-use Rattle.store_laws.specs.FactSetLaws.{and_within, within_refl, within_trans, within_le}
-use Rattle.stores.specs.Stores.{Constraint, conclusions, join, strictly_below, least_store}
-use Rattle.store_laws.specs.StoreLaws.{includes_within, within_includes, below_within, within_below, closure_same, closed_by_closure, closure_constraint, join_left, least_within, below_least}
-use Rattle.sheets.specs.Sheet.{Sheet}
+use Rattle.sheet_laws.specs.TestLaws.{true_false, and_left, and_right, and_intro, not_passes}
+use Rattle.moves.specs.Lists.{select, any, Ascends, none_left, then_rest, Distinct, no_elements, one_more}
+use Rattle.sheet_laws.specs.Members.{mem_select, select_mem, any_yes, any_no, mem_map}
+use Rattle.sheet_laws.specs.AscendingLaws.{number_order, select_ascends}
+use Rattle.sheet_laws.specs.Counting.{distinct_length, distinct_map_on}
+use Rattle.moves.specs.FactSets.{Within}
+use Rattle.sheet_laws.specs.FactSetLaws.{and_within, within_refl, within_trans, within_le}
+use Rattle.sheet_laws.specs.Stores.{Constraint, conclusions, join, strictly_below, least_store}
+use Rattle.sheet_laws.specs.StoreLaws.{includes_within, within_includes, below_within, within_below, closure_same, closed_by_closure, closure_constraint, join_left, least_within, below_least}
+use Rattle.moves.specs.Sheet.{Sheet}
 use Rattle.moves.specs.Moves.{count_up, is_closed, constraints, is_minimal, makes_true, labels}
 
 -- ---- numbers counted up
@@ -109,7 +109,7 @@ module _ (sheet : Sheet) where
   pub constraints_all : (a : ℕ) → Constraint sheet.facts sheet.rules a → Memᴰ a (constraints sheet)
   constraints_all a c =
       select_mem (is_closed sheet) (count_up 0 (2 ^ sheet.facts)) (count_up_mem (2 ^ sheet.facts) 0 a (omega arith) (omega (arith, c.facts)))
-      (eq_eqb _ _ (closure_same sheet.rules a c.closed))
+      (eq-eqb _ _ (closure_same sheet.rules a c.closed))
 
   pub constraints_only : {a : ℕ} → Memᴰ a (constraints sheet) → Constraint sheet.facts sheet.rules a
   constraints_only {a} m =

@@ -8,14 +8,14 @@ use Rattle.std.proofs.Math.Logic.{⊎_elim}
 use mathlib.Core.List.Memᴰ
 use mathlib.Core.List.{List, [], ◌∷◌, ◌++◌, map, Memᴰ}
 use Prim.Native.Nat.{ℕ, zero, suc, ◌^◌, ◌<◌}
-use Rattle.list_laws.specs.Members.{mem_map, map_mem}
-use Rattle.lists.specs.Lists.{sort_up}
-use Rattle.list_laws.specs.AscendingLaws.{arrange_keeps, arrange_only}
-use Rattle.stores.specs.FactSets.{Within}
-use Rattle.store_laws.specs.FactSetLaws.{within_trans}
-use Rattle.stores.specs.Stores.{Closed, Constraint, conclusions, join, least_store}
-use Rattle.store_laws.specs.StoreLaws.{join_left, join_right, join_least, join_closed, join_comm, join_assoc, join_swap, within_join, least_within}
-use Rattle.sheets.specs.Sheet.{Node, stop, tell, ask, both, either, Configuration, Sheet, node_of, opened}
+use Rattle.sheet_laws.specs.Members.{mem_map, map_mem}
+use Rattle.moves.specs.Lists.{sort_up}
+use Rattle.sheet_laws.specs.AscendingLaws.{arrange_keeps, arrange_only}
+use Rattle.moves.specs.FactSets.{Within}
+use Rattle.sheet_laws.specs.FactSetLaws.{within_trans}
+use Rattle.sheet_laws.specs.Stores.{Closed, Constraint, conclusions, join, least_store}
+use Rattle.sheet_laws.specs.StoreLaws.{join_left, join_right, join_least, join_closed, join_comm, join_assoc, join_swap, within_join, least_within}
+use Rattle.moves.specs.Sheet.{Node, stop, tell, ask, both, either, Configuration, Sheet, node_of, opened}
 use Rattle.moves.specs.Orders.{Move}
 use Rattle.move_laws.specs.OrderLaws.{move_order}
 use Rattle.moves.specs.Moves.{Step, labels, beside, steps_of, steps_within, steps, move_of, moves_from, moves, Moves, Reduces, add}

@@ -4,7 +4,7 @@ use Rattle.std.specs.Prelude.{◌≡◌, List, length}
 use Rattle.std.proofs.Math.Path.{refl}
 use Rattle.std.proofs.Common.{◌∙◌, arith}
 use Prim.Native.Nat.{ℕ, zero, suc, ◌<◌}
-use Rattle.sheets.specs.Sheet.{Node, stop, tell, ask, both, either, Sheet, node_of, opening_of, open_within, opened}
+use Rattle.moves.specs.Sheet.{Node, stop, tell, ask, both, either, Sheet, node_of, opening_of, open_within, opened}
 use Rattle.sheet_laws.specs.Ranks.{OfParts, Part, Ranked, parts_map}
 use Rattle.sheet_laws.specs.OpeningLaws.{opening_enough}
 use Rattle.moves.specs.Moves.{Step, steps_of, steps_within, steps}

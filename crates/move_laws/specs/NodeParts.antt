@@ -3,7 +3,7 @@
 use Rattle.std.specs.Prelude.{◌⊎◌, ℕ}
 use mathlib.Core.List.Memᴰ
 use mathlib.Core.List.{List, map, Memᴰ}
-use Rattle.sheets.specs.Sheet.{Node, both, either, Sheet, opened}
+use Rattle.moves.specs.Sheet.{Node, both, either, Sheet, opened}
 use Rattle.moves.specs.Moves.{Step, beside, steps_of}
 
 module _ (sheet : Sheet) (d : ℕ) (inner : ℕ → List Step) (p q : ℕ) where

@@ -1,15 +1,15 @@
 -- The orders of configurations and of moves are strict total orders.
 use Rattle.std.specs.Prelude.{◌≡◌, refl, Bool, true, false, cond, List, [], ◌∷◌, ℕ, ◌≤◌, ◌<◌, length, eqb, ltb}
-use Rattle.std.proofs.Common.{sym, ap₂, ◌∙◌, arith, eqb-true, eq_eqb, ne_eqb, ltb-true, ltb-false, lt-ltb}
+use Rattle.std.proofs.Common.{sym, ap₂, ◌∙◌, arith, eqb-true, eq-eqb, ne_eqb, ltb-true, ltb-false, lt-ltb}
 use Rattle.std.proofs.lemmas.Bool.{eqb-false}
-use Rattle.list_laws.specs.TestLaws.{true_false}
-use Rattle.list_laws.specs.AscendingLaws.{Order}
-use Rattle.sheets.specs.Sheet.{Configuration}
+use Rattle.sheet_laws.specs.TestLaws.{true_false}
+use Rattle.sheet_laws.specs.AscendingLaws.{Order}
+use Rattle.moves.specs.Sheet.{Configuration}
 use Rattle.moves.specs.Orders.{Move, first_by, leftmost, by_threads, configuration_before, move_before}
 
 module _ {A : Type 0} (f : A → ℕ) (next : A → A → Bool) where
   pub first_by_irreflexive : ((a : A) → next a a ≡ true → ⊥) → (a : A) → first_by f next a a ≡ true → ⊥
-  first_by_irreflexive irr a h = irr a (rw (eq_eqb (f a) (f a) refl) at h)
+  first_by_irreflexive irr a h = irr a (rw (eq-eqb (f a) (f a) refl) at h)
 
   first_by_cases : (a b : A) → first_by f next a b ≡ true → (c : Bool) → eqb (f a) (f b) ≡ c
       → (cond c (next a b) (ltb (f a) (f b))) ≡ true
@@ -21,7 +21,7 @@ module _ {A : Type 0} (f : A → ℕ) (next : A → A → Bool) where
     where
       go : (s : Bool) → eqb (f a) (f b) ≡ s → (t : Bool) → eqb (f b) (f c) ≡ t → first_by f next a c ≡ true
       go true s true t =
-          rw (eq_eqb (f a) (f c) (eqb-true (f a) (f b) s ∙ eqb-true (f b) (f c) t))
+          rw (eq-eqb (f a) (f c) (eqb-true (f a) (f b) s ∙ eqb-true (f b) (f c) t))
           (tr a b c (first_by_cases a b h true s) (first_by_cases b c k true t))
       go true s false t =
           let l : f b < f c = ltb-true (f b) (f c) (first_by_cases b c k false t) in
@@ -44,7 +44,7 @@ module _ {A : Type 0} (f : A → ℕ) (next : A → A → Bool) where
       go : (s : Bool) → eqb (f a) (f b) ≡ s → (f a ≡ f b) × (next a b ≡ false) × (next b a ≡ false)
       go true s =
           let e : f a ≡ f b = eqb-true (f a) (f b) s in
-          (e, rw s at h, rw (eq_eqb (f b) (f a) (sym e)) at k)
+          (e, rw s at h, rw (eq-eqb (f b) (f a) (sym e)) at k)
       go false s =
           let n : f a ≡ f b → ⊥ = eqb-false (f a) (f b) s in
           let x : f b ≤ f a = ltb-false (f a) (f b) (rw s at h) in
@@ -53,7 +53,7 @@ module _ {A : Type 0} (f : A → ℕ) (next : A → A → Bool) where
 
 pub leftmost_irreflexive : (xs : List ℕ) → leftmost xs xs ≡ true → ⊥
 leftmost_irreflexive [] h = true_false false h refl
-leftmost_irreflexive (x ∷ xs) h = leftmost_irreflexive xs (rw (eq_eqb x x refl) at h)
+leftmost_irreflexive (x ∷ xs) h = leftmost_irreflexive xs (rw (eq-eqb x x refl) at h)
 
 pub leftmost_transitive : (xs ys zs : List ℕ) → leftmost xs ys ≡ true → leftmost ys zs ≡ true → leftmost xs zs ≡ true
 leftmost_transitive [] ys zs h k = true_false false h refl
@@ -65,7 +65,7 @@ leftmost_transitive (x ∷ xs) (y ∷ ys) (z ∷ zs) h k = go (leftmost_transiti
         → (s : Bool) → eqb x y ≡ s → (t : Bool) → eqb y z ≡ t
         → cond s (leftmost xs ys) (ltb x y) ≡ true → cond t (leftmost ys zs) (ltb y z) ≡ true
         → cond (eqb x z) (leftmost xs zs) (ltb x z) ≡ true
-    go ih true s true t h k = rw (eq_eqb x z (eqb-true x y s ∙ eqb-true y z t)) (ih h k)
+    go ih true s true t h k = rw (eq-eqb x z (eqb-true x y s ∙ eqb-true y z t)) (ih h k)
     go ih true s false t h k =
         let e : x ≡ y = eqb-true x y s in
         let l : y < z = ltb-true y z k in
@@ -89,7 +89,7 @@ leftmost_total (x ∷ xs) (y ∷ ys) e h k = go (leftmost_total xs ys (omega ari
         → cond s (leftmost xs ys) (ltb x y) ≡ false → (x ∷ xs) ≡ (y ∷ ys)
     go ih true s h =
         let q : x ≡ y = eqb-true x y s in
-        ap₂ (λ (a : ℕ) (l : List ℕ). a ∷ l) q (ih h (rw (eq_eqb y x (sym q)) at k))
+        ap₂ (λ (a : ℕ) (l : List ℕ). a ∷ l) q (ih h (rw (eq-eqb y x (sym q)) at k))
     go ih false s h =
         let n : x ≡ y → ⊥ = eqb-false x y s in
         let a : y ≤ x = ltb-false x y h in

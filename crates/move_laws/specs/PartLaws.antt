@@ -3,8 +3,8 @@
 use Rattle.std.specs.Prelude.{◌≡◌, ◌⊎◌, ℕ, ◌<◌, length}
 use Rattle.std.proofs.Common.{sym, ap, ◌∙◌, subst, inl, inr, ⊎_elim}
 use mathlib.Core.List.{List, map, Memᴰ}
-use Rattle.list_laws.specs.Members.{map_mem, mem_map}
-use Rattle.sheets.specs.Sheet.{Node, both, either, Sheet, node_of, opened}
+use Rattle.sheet_laws.specs.Members.{map_mem, mem_map}
+use Rattle.moves.specs.Sheet.{Node, both, either, Sheet, node_of, opened}
 use Rattle.sheet_laws.specs.Ranks.{Ranked}
 use Rattle.moves.specs.Moves.{Step, beside, steps_of, steps}
 use Rattle.move_laws.specs.NodeParts.{both_has_first, both_has_second, both_has_only, either_has_first, either_has_second, either_has_only}

@@ -1,1 +1,2 @@
 // Labels, labelled moves and reductions: laws. No functions.
+#![tactic(auto)]

@@ -2,8 +2,8 @@
 -- One statement proves them all. The starred cases are in comparison/KnownCases.
 use Rattle.std.specs.Prelude.{refl, Bool, List, [], ◌∷◌, map, ℕ, ◌^◌, length, T}
 use mathlib.Core.List.Memᴰ
-use Rattle.lists.specs.Lists.{all, concat_map, same_numbers}
-use Rattle.stores.specs.Stores.{Rule, closure, passes, pass, conclusions}
+use Rattle.sheets.specs.Lists.{all, concat_map, same_numbers}
+use Rattle.sheets.specs.Stores.{Rule, closure, passes, pass, conclusions}
 use Rattle.sheets.specs.Sheet.{Node, stop, tell, ask, both, either, Sheet, open_within}
 use Rattle.moves.specs.Moves.{count_up, labels, steps_within, moves, Reduces}
 

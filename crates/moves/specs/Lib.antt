@@ -1,3 +1,11 @@
+pub use Rattle.sheets.specs.FactSets
+pub use Rattle.sheets.specs.Lists
+pub use Rattle.sheets.specs.Refusals
+pub use Rattle.sheets.specs.Sheet
+pub use Rattle.sheets.specs.SheetBytes
+pub use Rattle.sheets.specs.SheetLimits
+pub use Rattle.sheets.specs.Stores
+pub use Rattle.sheets.specs.WellFormed
 pub mod Moves
 pub mod Orders
 pub mod KnownMoves

@@ -2,8 +2,8 @@
 -- reductions. The paper's rules LR1 to LR4 (and R1 to R4 for reductions), up to the order of threads and stop.
 use Rattle.std.specs.Prelude.{Bool, not, ◌&&◌, ℕ, zero, suc, ◌^◌, length, eqb}
 use mathlib.Core.List.{List, [], ◌∷◌, ◌++◌, map, Memᴰ}
-use Rattle.lists.specs.Lists.{select, any, arrange, sort_up}
-use Rattle.stores.specs.Stores.{closure, join, entails, strictly_below, least_store}
+use Rattle.sheets.specs.Lists.{select, any, arrange, sort_up}
+use Rattle.sheets.specs.Stores.{closure, join, entails, strictly_below, least_store}
 use Rattle.sheets.specs.Sheet.{Node, stop, tell, ask, both, either, Configuration, Sheet, node_of, opened}
 use Rattle.moves.specs.Orders.{Move, move_before}
 

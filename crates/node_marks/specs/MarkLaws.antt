@@ -4,26 +4,26 @@ use Rattle.std.proofs.Common.{sym, ap, ◌∙◌, subst, inl, inr, ⊎_elim, ari
 use mathlib.Core.List.Memᴰ
 use mathlib.Core.List.{List, [], ◌∷◌, ◌++◌, map, Memᴰ}
 use Rattle.std.proofs.Math.Nat.{pow-le-pow_right}
-use Rattle.list_laws.specs.TestLaws.{true_false}
-use Rattle.list_laws.specs.Frames.{SameOutside, outside_same, outside_then, outside_again}
-use Rattle.list_laws.specs.Tabulate.{tabulate_at, tabulate_none}
-use Rattle.list_laws.specs.TabulateLaws.{tabulate_mem}
-use Rattle.list_laws.specs.Members.{mem_map, map_mem}
-use Rattle.sheets.specs.Sheet.{Node, Configuration}
-use Rattle.moves.specs.Orders.{Move}
-use Rattle.node_moves.specs.NodeMoves.{NodeBeside, placed_moves}
+use Rattle.packing.specs.TestLaws.{true_false}
+use Rattle.packing.specs.Frames.{SameOutside, outside_same, outside_then, outside_again}
+use Rattle.packing.specs.Tabulate.{tabulate_at, tabulate_none}
+use Rattle.packing.specs.TabulateLaws.{tabulate_mem}
+use Rattle.packing.specs.Members.{mem_map, map_mem}
+use Rattle.packing.specs.Sheet.{Node, Configuration}
+use Rattle.packing.specs.Orders.{Move}
+use Rattle.walk_state.specs.NodeMoves.{NodeBeside, placed_moves}
 use Rattle.member_table.specs.MemberTable.{member_in, members_in, part_at, Kept}
 use Rattle.member_table.specs.EntryFound.{EnteredIn}
 use Rattle.member_table.specs.MemberLaws.{kept_none, member_id, entered_itself, entered_only}
-use Rattle.ask_labels.specs.LabelShelfLaws.{room_agree, SameShelf, shelved_agree}
-use Rattle.collected_moves.specs.CollectedMoves.{Grown, members_of, moves_of}
-use Rattle.collected_moves.specs.CollectedLaws.{grown_trans}
-use Rattle.collected_moves.specs.CollectedFrames.{members_outside, moves_outside, collecting_outside, grown_outside}
-use Rattle.set_growth.specs.SetGrowth.{Growth, InHand}
-use Rattle.set_growth.specs.SetGrowthLaws.{gathered_same}
-use Rattle.threads_beside.specs.ThreadsBeside.{placed, placed_one}
-use Rattle.nodes_to_visit.specs.NodesToVisit.{pending_one, pending_in}
-use Rattle.nodes_to_visit.specs.NodesToVisitLaws.{pending_pop, pending_same, pending_same_packed, weight, weight_none, weight_next, weight_append}
+use Rattle.walk_state.specs.LabelShelfLaws.{room_agree, SameShelf, shelved_agree}
+use Rattle.walk_state.specs.CollectedMoves.{Grown, members_of, moves_of}
+use Rattle.walk_state.specs.CollectedLaws.{grown_trans}
+use Rattle.walk_state.specs.CollectedFrames.{members_outside, moves_outside, collecting_outside, grown_outside}
+use Rattle.walk_state.specs.SetGrowth.{Growth, InHand}
+use Rattle.walk_state.specs.SetGrowthLaws.{gathered_same}
+use Rattle.walk_state.specs.ThreadsBeside.{placed, placed_one}
+use Rattle.walk_state.specs.NodesToVisit.{pending_one, pending_in}
+use Rattle.walk_state.specs.NodesToVisitLaws.{pending_pop, pending_same, pending_same_packed, weight, weight_none, weight_next, weight_append}
 use Rattle.walk_state.specs.declared.Basis.{Basis}
 use Rattle.walk_state.specs.declared.Walk.{Walk}
 use Rattle.walk_state.specs.WalkState.{VisitFits, Entry, marks_of, Walking, InReach, InReachBelow, Covering, OnSheet, Carried, TurnOn, TurnOver}

@@ -1,8 +1,8 @@
 -- What marking a node gives.
 use Rattle.std.specs.Prelude.{◌≡◌, ◌⊎◌, true, false, ℕ, ◌+◌}
 use mathlib.Core.List.{List, Memᴰ}
-use Rattle.list_laws.specs.Frames.{SameOutside}
-use Rattle.node_moves.specs.NodeMoves.{NodeBeside}
+use Rattle.packing.specs.Frames.{SameOutside}
+use Rattle.walk_state.specs.NodeMoves.{NodeBeside}
 use Rattle.member_table.specs.MemberTable.{part_at, Kept}
 use Rattle.walk_state.specs.WalkState.{marks_of}
 use Rattle.node_marks.specs.declared.Marked.{Marked}

@@ -1,8 +1,10 @@
 // Nodes that were visited, marked with the threads beside them.
+#![tactic(auto)]
+
 ghost use Rattle.std.specs.Prelude.{◌≤◌, length};
 ghost use Rattle.packing.specs.Packing.{PackedIn};
 ghost use Rattle.member_table.specs.MemberTable.{part_at, Kept};
-ghost use Rattle.threads_beside.specs.ThreadsBeside.{node_for};
+ghost use Rattle.walk_state.specs.ThreadsBeside.{node_for};
 ghost use Rattle.node_marks.specs.NodeMarks.{SeenAs, MarkedAs};
 ghost use Rattle.work_layout.specs.WorkLayout.{marks_at, pending_end};
 

@@ -5,19 +5,19 @@ use Rattle.std.proofs.Common.{sym, ap, ap₂, ◌∙◌, subst, ⊎_elim, arith}
 use mathlib.Core.List.Memᴰ
 use mathlib.Core.List.{List, [], ◌∷◌, ◌++◌, map, map-map, map-append, Memᴰ}
 use Rattle.std.proofs.Math.Seq.{append_snoc}
-use Rattle.list_laws.specs.TestLaws.{true_false, or_false}
-use Rattle.list_laws.specs.Members.{mem_map, map_mem}
-use Rattle.lists.specs.Lists.{sort_up}
-use Rattle.list_laws.specs.AscendingLaws.{arrange_keeps, arrange_only}
-use Rattle.stores.specs.Stores.{join, least_store}
-use Rattle.store_laws.specs.StoreLaws.{join_right}
-use Rattle.sheets.specs.Sheet.{Node, stop, tell, ask, both, either, Sheet, node_of, opened}
-use Rattle.sheets.specs.WellFormed.{NodeFits, WellFormed}
-use Rattle.sheet_laws.specs.Ranks.{OfParts, Part, Ranked, rank_of, parts_map}
-use Rattle.sheet_laws.specs.ReadingLaws.{well_formed_ranked}
-use Rattle.moves.specs.Orders.{Move}
+use Rattle.move_laws.specs.TestLaws.{true_false, or_false}
+use Rattle.move_laws.specs.Members.{mem_map, map_mem}
+use Rattle.move_laws.specs.Lists.{sort_up}
+use Rattle.move_laws.specs.AscendingLaws.{arrange_keeps, arrange_only}
+use Rattle.move_laws.specs.Stores.{join, least_store}
+use Rattle.move_laws.specs.StoreLaws.{join_right}
+use Rattle.move_laws.specs.Sheet.{Node, stop, tell, ask, both, either, Sheet, node_of, opened}
+use Rattle.move_laws.specs.WellFormed.{NodeFits, WellFormed}
+use Rattle.move_laws.specs.Ranks.{OfParts, Part, Ranked, rank_of, parts_map}
+use Rattle.move_laws.specs.ReadingLaws.{well_formed_ranked}
+use Rattle.move_laws.specs.Orders.{Move}
 use Rattle.move_laws.specs.OrderLaws.{move_order}
-use Rattle.moves.specs.Moves.{Step, labels, beside, steps_of, steps, move_of, moves_from, moves}
+use Rattle.move_laws.specs.Moves.{Step, labels, beside, steps_of, steps, move_of, moves_from, moves}
 use Rattle.move_laws.specs.LabelLaws.{label_below}
 use Rattle.move_laws.specs.NestingLaws.{steps_are}
 use Rattle.node_moves.specs.NodeMoves.{node_moves, movable_of, movable_within, movable}

@@ -1,9 +1,9 @@
 -- The moves of a configuration, node by node: what one node gives beside other threads, and whether it gives any.
 -- (Document 01, "Configurations and moves".)
 use Rattle.std.specs.Prelude.{Bool, true, false, ◌||◌, List, map, ℕ, zero, suc, length}
-use Rattle.sheets.specs.Sheet.{Node, stop, tell, ask, both, either, Sheet, node_of}
-use Rattle.moves.specs.Orders.{Move}
-use Rattle.moves.specs.Moves.{steps, move_of}
+use Rattle.move_laws.specs.Sheet.{Node, stop, tell, ask, both, either, Sheet, node_of}
+use Rattle.move_laws.specs.Orders.{Move}
+use Rattle.move_laws.specs.Moves.{steps, move_of}
 
 -- the moves that node k gives at store d with these threads beside it
 abbrev pub node_moves : Sheet → ℕ → List ℕ → ℕ → List Move

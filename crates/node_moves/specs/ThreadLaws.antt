@@ -4,9 +4,9 @@ use Rattle.std.specs.Prelude.{◌≡◌, refl, ℕ, zero, suc, ◌+◌, ◌<◌,
 use Rattle.std.proofs.Common.{sym, ap, ◌∙◌, ⊎_elim, arith, add-one, length-append}
 use mathlib.Core.List.Memᴰ
 use mathlib.Core.List.{List, [], ◌∷◌, ◌++◌, append-nil, append_assoc, Memᴰ}
-use Rattle.lists.specs.Lists.{insert_up, sort_up, NotFalling, none_later, none_less}
-use Rattle.list_laws.specs.AscendingLaws.{sort_up_same, sort_up_not_falling, sort_up_length}
-use Rattle.list_laws.specs.SortingLaws.{insert_up_comm, insert_all, insert_all_sorted}
+use Rattle.move_laws.specs.Lists.{insert_up, sort_up, NotFalling, none_later, none_less}
+use Rattle.move_laws.specs.AscendingLaws.{sort_up_same, sort_up_not_falling, sort_up_length}
+use Rattle.move_laws.specs.SortingLaws.{insert_up_comm, insert_all, insert_all_sorted}
 
 -- ---- sorting
 -- a number in the middle may be inserted last

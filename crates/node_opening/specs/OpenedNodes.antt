@@ -1,16 +1,16 @@
 -- The table of opened nodes: the threads of one node more, and what it then holds.
 use Rattle.std.specs.Prelude.{◌≡◌, refl, Bool, true, false, cond, List, [], ◌∷◌, ◌++◌, ℕ, ◌+◌, ◌*◌, ◌≤◌, ◌<◌, length, get_or, set, take, drop, eqb, ltb}
-use Rattle.std.proofs.Common.{sym, ap, ap₂, ◌∙◌, inl, inr, arith, length-append, length-take, length-drop, length-set, get_or-set_same, get_or_set_other, drop-set-lt, lt-ltb, le-ltb, ne_eqb, ltb-true, ltb-false}
+use Rattle.std.proofs.Common.{sym, ap, ap₂, ◌∙◌, inl, inr, arith, length-append, length-take, length-drop, length-set, get_or-set_same, get_or-set_other, drop-set-lt, lt-ltb, le-ltb, ne_eqb, ltb-true, ltb-false}
 use Rattle.std.proofs.lemmas.List.Edits.{sets}
 use Rattle.std.proofs.Math.Seq.{length-sets}
-use Rattle.sheets.specs.SheetLimits.{max_nodes, max_threads}
-use Rattle.sheets.specs.Sheet.{Node, tell, ask, both, either, opening_of, opened}
+use Rattle.sheet_laws.specs.SheetLimits.{max_nodes, max_threads}
+use Rattle.sheet_laws.specs.Sheet.{Node, tell, ask, both, either, opening_of, opened}
 use Rattle.sheet_laws.specs.Ranks.{Ranked, rank_of, parts_map}
 use Rattle.sheet_laws.specs.OpeningLaws.{LowerNames, ranked_none, ranked_next, opening_same, opening_prefix, opening_next}
 use Rattle.sheet_types.specs.HeldSheet.{node_held, opened_in, OpenedHeld}
 use Rattle.sheet_types.specs.NodeTable.{Opened, column, nodes_of, opened_of, movables_of, counts_at, movables_at, threads_at, table_end}
 use Rattle.sheet_types.specs.NodeTableLaws.{column_other, column_set, drop_sets, nodes_same, threads_from_lem}
-use Rattle.list_laws.specs.Storing.{sets_append, part_sets, stored_part}
+use Rattle.sheet_types.specs.Storing.{sets_append, part_sets, stored_part}
 
 -- the number of threads that a node opens to, and what the table then holds of them
 pub record OpenedNode : Type 0 where
@@ -160,7 +160,7 @@ holding_at o k ts a b = rw (get_or-set_same o.counts k (length ts) 0 a) (stored_
 pub holding_below : (o : Opened) (k : ℕ) (ts : List ℕ) (j : ℕ) → j < k → get_or o.counts j 0 ≤ max_threads
     → opened_in (holding o k ts) j ≡ opened_in o j
 holding_below o k ts j a b =
-    rw (get_or_set_other o.counts k j (length ts) 0 (omega arith))
+    rw (get_or-set_other o.counts k j (length ts) 0 (omega arith))
     (part_sets o.threads (8 * j) (get_or o.counts j 0) (8 * k) ts (omega arith))
 
 -- the table of these nodes, which are ranked: what each opens to, at most eight threads
@@ -196,7 +196,7 @@ module _ (ns : List Node) (o : Opened) (n : Node) (table : OpenedTable ns o) (lo
         let below = ltb-true k (length ns) e in
         let a = table.few.at k below in (
           holding_below o (length ns) ts k below a ∙ table.holds.at k below ∙ sym (opening_prefix ns (n ∷ []) table.ranked k below),
-          rw (get_or_set_other o.counts (length ns) k (length ts) 0 (omega arith)) a,
+          rw (get_or-set_other o.counts (length ns) k (length ts) 0 (omega arith)) a,
         )
     next_at k l false e =
         let ts : List ℕ = threads_of o (length ns) n in

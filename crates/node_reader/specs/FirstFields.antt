@@ -1,9 +1,9 @@
 -- The first field as it is held: the set of a tell and an ask is closed when it is read.
 use Rattle.std.specs.Prelude.{◌≡◌, cond, ◌||◌, List, ℕ, ◌≤◌, eqb}
 use Rattle.std.proofs.Common.{arith, ne_eqb}
-use Rattle.stores.specs.Stores.{Rule, closure}
-use Rattle.sheet_reading.specs.Reading.{node_from}
-use Rattle.sheet_laws.specs.FieldLaws.{KindIs, is_stop, is_tell, is_ask, is_pair_lem, kind_is, pair_tests}
+use Rattle.set_closure.specs.Stores.{Rule, closure}
+use Rattle.sheet_types.specs.Reading.{node_from}
+use Rattle.sheet_fields.specs.FieldLaws.{KindIs, is_stop, is_tell, is_ask, is_pair_lem, kind_is, pair_tests}
 use Rattle.sheet_types.specs.HeldSheet.{node_held}
 
 abbrev pub closed_first : List Rule → ℕ → ℕ → ℕ

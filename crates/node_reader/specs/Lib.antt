@@ -1,3 +1,4 @@
+pub use Rattle.movable_nodes.specs.NodeTables
 pub mod FirstFields
 pub mod NodesFound
 pub mod StoredNode

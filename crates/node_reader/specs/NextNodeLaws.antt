@@ -1,14 +1,14 @@
 -- One node after those that were read: refused in its fields, refused for its threads, or read, with its threads in the table.
 use Rattle.std.specs.Prelude.{◌≡◌, true, false, List, [], ◌∷◌, ◌++◌, ℕ, ◌+◌, ◌*◌, ◌≤◌, ◌<◌, length, set, ltb}
-use Rattle.std.proofs.Common.{sym, ap, ◌∙◌, subst, arith, length-append, length-take, length-drop, get_or-set_same, get_or_set_other, lt-ltb, le-ltb}
-use Rattle.list_laws.specs.Tabulate.{tabulate_next, tabulate_same, tabulate_length}
-use Rattle.stores.specs.Stores.{Rule}
-use Rattle.sheets.specs.SheetLimits.{max_threads, max_nodes}
-use Rattle.sheets.specs.Sheet.{Node, opened}
-use Rattle.sheet_reading.specs.Reading.{got, refused, and_then, refused_if, node_at}
-use Rattle.sheet_laws.specs.OpeningLaws.{LowerNames}
-use Rattle.sheet_laws.specs.NodeFields.{node_fields_at, opens_to_many, node_checked}
-use Rattle.sheet_laws.specs.SectionLaws.{node_fields_lower}
+use Rattle.std.proofs.Common.{sym, ap, ◌∙◌, subst, arith, length-append, length-take, length-drop, get_or-set_same, get_or-set_other, lt-ltb, le-ltb}
+use Rattle.sheet_types.specs.Tabulate.{tabulate_next, tabulate_same, tabulate_length}
+use Rattle.set_closure.specs.Stores.{Rule}
+use Rattle.set_closure.specs.SheetLimits.{max_threads, max_nodes}
+use Rattle.sheet_types.specs.Sheet.{Node, opened}
+use Rattle.sheet_types.specs.Reading.{got, refused, and_then, refused_if, node_at}
+use Rattle.node_opening.specs.OpeningLaws.{LowerNames}
+use Rattle.sheet_fields.specs.NodeFields.{node_fields_at, opens_to_many, node_checked}
+use Rattle.sheet_fields.specs.SectionLaws.{node_fields_lower}
 use Rattle.sheet_types.specs.HeldSheet.{node_held, node_in, nodes_in, answer_with}
 use Rattle.sheet_types.specs.SectionLaws.{refused_with}
 use Rattle.sheet_types.specs.declared.Section.TheVariants.{Got, Refused}
@@ -30,7 +30,7 @@ nodes_with ns i kind first second a b c =
     rw (get_or-set_same ns.kinds i kind 0 a, get_or-set_same ns.firsts i first 0 b, get_or-set_same ns.seconds i second 0 c) in
     tabulate_next (node_in with) i
     ∙ ap (λ (l : List Node). l ++ (node_in with i ∷ [])) (tabulate_same (node_in with) (node_in ns) i (λ j l.
-    rw (get_or_set_other ns.kinds i j kind 0 (omega arith), get_or_set_other ns.firsts i j first 0 (omega arith), get_or_set_other ns.seconds i j second 0 (omega arith))))
+    rw (get_or-set_other ns.kinds i j kind 0 (omega arith), get_or-set_other ns.firsts i j first 0 (omega arith), get_or-set_other ns.seconds i j second 0 (omega arith))))
     ∙ ap (λ (x : Node). nodes_in ns i ++ (x ∷ [])) last
 
 -- one node more is read up to `next`: the table has it

@@ -1,11 +1,11 @@
 -- What the readers of nodes find.
 use Rattle.std.specs.Prelude.{◌≡◌, ◌⊎◌, List, ℕ, ◌*◌, ◌≤◌, ◌<◌, length, set, replicate}
 use Rattle.std.proofs.Common.{sym, ap, ◌∙◌, arith}
-use Rattle.stores.specs.Stores.{Rule}
-use Rattle.sheets.specs.SheetLimits.{min_nodes, max_nodes, max_threads, max_kind}
-use Rattle.sheets.specs.Sheet.{Node}
-use Rattle.sheet_reading.specs.Reading.{Reading, got, refused, node_from}
-use Rattle.sheet_laws.specs.NodeFields.{node_fields_at}
+use Rattle.set_closure.specs.Stores.{Rule}
+use Rattle.set_closure.specs.SheetLimits.{min_nodes, max_nodes, max_threads, max_kind}
+use Rattle.sheet_types.specs.Sheet.{Node}
+use Rattle.sheet_types.specs.Reading.{Reading, got, refused, node_from}
+use Rattle.sheet_fields.specs.NodeFields.{node_fields_at}
 use Rattle.sheet_types.specs.HeldSheet.{node_held, node_read, nodes_read, nodes_in, answer_with}
 use Rattle.sheet_types.specs.SectionLaws.{refused_with, refused_never}
 use Rattle.sheet_types.specs.declared.Section.{Section}

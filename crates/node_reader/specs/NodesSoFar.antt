@@ -1,12 +1,12 @@
 -- The loop over the nodes: what it has after i of n nodes, and what the whole reading then is.
 use Rattle.std.specs.Prelude.{◌≡◌, refl, List, [], ℕ, ◌+◌, ◌-◌, ◌≤◌, ◌<◌, length}
 use Rattle.std.proofs.Common.{sym, ap, ◌∙◌, arith}
-use Rattle.list_laws.specs.Tabulate.{tabulate_none}
-use Rattle.stores.specs.Stores.{Rule}
-use Rattle.sheets.specs.SheetLimits.{min_nodes, max_nodes}
-use Rattle.sheets.specs.Sheet.{Node}
-use Rattle.sheet_reading.specs.Reading.{Reading, got, refused, records_from, node_at}
-use Rattle.sheet_laws.specs.RecordLaws.{records_none, records_refused, records_next}
+use Rattle.sheet_types.specs.Tabulate.{tabulate_none}
+use Rattle.set_closure.specs.Stores.{Rule}
+use Rattle.set_closure.specs.SheetLimits.{min_nodes, max_nodes}
+use Rattle.sheet_types.specs.Sheet.{Node}
+use Rattle.sheet_types.specs.Reading.{Reading, got, refused, records_from, node_at}
+use Rattle.sheet_fields.specs.RecordLaws.{records_none, records_refused, records_next}
 use Rattle.sheet_types.specs.HeldSheet.{node_in, nodes_in}
 use Rattle.sheet_types.specs.SectionLaws.{refused_with, refused_never}
 use Rattle.sheet_types.specs.declared.Section.{Section}

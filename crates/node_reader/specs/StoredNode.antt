@@ -1,15 +1,15 @@
 -- One node stored in the table: its two numbers of a byte, its number of two bytes, its mark; and what the second field can be.
 use Rattle.std.specs.Prelude.{◌≡◌, refl, true, false, ◌⊎◌, List, ℕ, ◌+◌, ◌*◌, ◌/◌, ◌%◌, ◌≤◌, ◌<◌, length, get_or, set, take, drop, eqb, ltb}
-use Rattle.std.proofs.Common.{sym, ap, ap₂, ◌∙◌, inl, inr, arith, length-take, length-drop, length-set, drop-set-lt, get_or-set_same, get_or_set_other, ext_get_or, eqb-true, ltb-true, ltb-false}
+use Rattle.std.proofs.Common.{sym, ap, ap₂, ◌∙◌, inl, inr, arith, length-take, length-drop, length-set, drop-set-lt, get_or-set_same, get_or-set_other, ext_get_or, eqb-true, ltb-true, ltb-false}
 use Rattle.std.proofs.lemmas.Bool.{eqb-false}
-use Rattle.list_laws.specs.TestLaws.{Tested, passes, fails, tested}
-use Rattle.list_laws.specs.Tabulate.{tabulate_at, tabulate_length}
-use Rattle.sheets.specs.SheetLimits.{max_nodes, max_threads}
-use Rattle.sheet_reading.specs.Reading.{got, second_at}
-use Rattle.sheets.specs.Sheet.{Node}
-use Rattle.sheet_laws.specs.Ranks.{parts_map}
-use Rattle.sheet_laws.specs.OpeningLaws.{LowerNames}
-use Rattle.sheet_laws.specs.FieldLaws.{second_unused, second_any, second_below, unused_gets, below_gets}
+use Rattle.sheet_types.specs.TestLaws.{Tested, passes, fails, tested}
+use Rattle.sheet_types.specs.Tabulate.{tabulate_at, tabulate_length}
+use Rattle.set_closure.specs.SheetLimits.{max_nodes, max_threads}
+use Rattle.sheet_types.specs.Reading.{got, second_at}
+use Rattle.sheet_types.specs.Sheet.{Node}
+use Rattle.node_opening.specs.Ranks.{parts_map}
+use Rattle.node_opening.specs.OpeningLaws.{LowerNames}
+use Rattle.sheet_fields.specs.FieldLaws.{second_unused, second_any, second_below, unused_gets, below_gets}
 use Rattle.sheet_types.specs.HeldSheet.{node_held}
 use Rattle.sheet_types.specs.NodeTable.{
   Nodes,
@@ -98,8 +98,8 @@ paired_set lows highs k x small a b =
     go i l (fails t) =
         let ne = eqb-false i k t in
         at (set lows k (x % 256)) (set highs k (x / 256)) i l
-        ∙ ap₂ (λ (m n : ℕ). m + 256 * n) (get_or_set_other lows k i (x % 256) 0 ne) (get_or_set_other highs k i (x / 256) 0 ne)
-        ∙ sym (get_or_set_other (paired lows highs) k i x 0 ne ∙ at lows highs i l)
+        ∙ ap₂ (λ (m n : ℕ). m + 256 * n) (get_or-set_other lows k i (x % 256) 0 ne) (get_or-set_other highs k i (x / 256) 0 ne)
+        ∙ sym (get_or-set_other (paired lows highs) k i x 0 ne ∙ at lows highs i l)
 
 -- ---- the five bytes of node k
 abbrev pub node_stored : List ℕ → ℕ → ℕ → ℕ → ℕ → ℕ → List ℕ

@@ -3,18 +3,18 @@ use Rattle.std.specs.Prelude.{◌≡◌, false, ℕ, ◌+◌, ◌<◌, length, g
 use Rattle.std.proofs.Common.{sym, ap, ◌∙◌, subst, inl, inr, arith, ne_eqb}
 use mathlib.Core.List.Memᴰ
 use mathlib.Core.List.{List, [], ◌∷◌, Memᴰ}
-use Rattle.list_laws.specs.Frames.{outside_again}
-use Rattle.list_laws.specs.Tabulate.{tabulate_at, tabulate_length, tabulate_none}
-use Rattle.sheets.specs.Sheet.{Node, stop, tell, ask, both, either, node_of}
-use Rattle.sheet_laws.specs.Ranks.{OfParts, Part, Ranked}
-use Rattle.moves.specs.Orders.{Move}
-use Rattle.node_moves.specs.NodeMoves.{NodeBeside}
-use Rattle.node_moves.specs.NodeMoveLaws.{moves_of_stop}
+use Rattle.nodes_to_visit.specs.Frames.{outside_again}
+use Rattle.sheet_types.specs.Tabulate.{tabulate_at, tabulate_length, tabulate_none}
+use Rattle.sheet_types.specs.Sheet.{Node, stop, tell, ask, both, either, node_of}
+use Rattle.threads_beside.specs.Ranks.{OfParts, Part, Ranked}
+use Rattle.nodes_to_visit.specs.Orders.{Move}
+use Rattle.threads_beside.specs.NodeMoves.{NodeBeside}
+use Rattle.threads_beside.specs.NodeMoveLaws.{moves_of_stop}
 use Rattle.sheet_types.specs.NodeTable.{Nodes, nodes_of}
 use Rattle.sheet_types.specs.HeldSheet.{node_held, node_in, nodes_in}
-use Rattle.collected_moves.specs.CollectedMoves.{Grown, moves_of}
-use Rattle.collected_moves.specs.CollectedLaws.{grown_refl, grown_trans}
-use Rattle.set_growth.specs.SetGrowth.{Growth, InHand}
+use Rattle.walk_state.specs.CollectedMoves.{Grown, moves_of}
+use Rattle.walk_state.specs.CollectedLaws.{grown_refl, grown_trans}
+use Rattle.walk_state.specs.SetGrowth.{Growth, InHand}
 use Rattle.nodes_to_visit.specs.NodesToVisit.{pending_one, pending_in}
 use Rattle.walk_state.specs.declared.Basis.{Basis}
 use Rattle.walk_state.specs.declared.Walk.{Walk}

@@ -1,10 +1,10 @@
 -- What a walk gives that goes on until no node is left to visit.
 use Rattle.std.specs.Prelude.{◌≡◌, ℕ}
 use mathlib.Core.List.{List, [], Memᴰ}
-use Rattle.sheets.specs.Sheet.{Node}
-use Rattle.moves.specs.Orders.{Move}
-use Rattle.collected_moves.specs.CollectedMoves.{Grown, moves_of}
-use Rattle.set_growth.specs.SetGrowth.{Growth, InHand}
+use Rattle.sheet_types.specs.Sheet.{Node}
+use Rattle.nodes_to_visit.specs.Orders.{Move}
+use Rattle.walk_state.specs.CollectedMoves.{Grown, moves_of}
+use Rattle.walk_state.specs.SetGrowth.{Growth, InHand}
 use Rattle.walk_state.specs.declared.Basis.{Basis}
 use Rattle.walk_state.specs.declared.Walk.{Walk}
 use Rattle.walk_state.specs.declared.Walked.{Walked}

@@ -1,6 +1,8 @@
 // The walk: the last node to visit is visited by its kind, until none is left.
+#![tactic(auto)]
+
 ghost use Rattle.std.specs.Prelude.{[], ◌∷◌, ◌+◌, ◌≤◌, ◌<◌};
-ghost use Rattle.sheet_laws.specs.Ranks.{rank_of};
+ghost use Rattle.threads_beside.specs.Ranks.{rank_of};
 ghost use Rattle.sheet_types.specs.NodeTable.{nodes_of};
 ghost use Rattle.sheet_types.specs.HeldSheet.{nodes_in};
 ghost use Rattle.threads_beside.specs.ThreadsBeside.{node_beside};

@@ -1,11 +1,11 @@
 -- An entry put in among the others: where it belongs, and the entries from there on moved three numbers up.
 use Rattle.std.specs.Prelude.{◌≡◌, refl, ◌⊎◌, Bool, true, false, List, ℕ, ◌+◌, ◌-◌, ◌*◌, ◌/◌, ◌≤◌, ◌<◌, length, get_or, set, ltb, eqb}
-use Rattle.std.proofs.Common.{sym, ap, ap₂, ◌∙◌, subst, inl, inr, arith, length-set, get_or-set_same, get_or_set_other, ltb-true, ltb-false, eqb-true}
+use Rattle.std.proofs.Common.{sym, ap, ap₂, ◌∙◌, subst, inl, inr, arith, length-set, get_or-set_same, get_or-set_other, ltb-true, ltb-false, eqb-true}
 use Rattle.std.proofs.lemmas.Bool.{eqb-false}
-use Rattle.list_laws.specs.TestLaws.{true_false}
-use Rattle.list_laws.specs.Frames.{SameOutside}
-use Rattle.list_laws.specs.RaisedNumbers.{Raised}
-use Rattle.node_moves.specs.NodeMoves.{NodeBeside}
+use Rattle.packing.specs.TestLaws.{true_false}
+use Rattle.packing.specs.Frames.{SameOutside}
+use Rattle.packing.specs.RaisedNumbers.{Raised}
+use Rattle.threads_beside.specs.NodeMoves.{NodeBeside}
 use Rattle.packing.specs.declared.Numbers.{Numbers}
 use Rattle.packing.specs.Packing.{PackedIn}
 use Rattle.threads_beside.specs.ThreadsBeside.{node_for}

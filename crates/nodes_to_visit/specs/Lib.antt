@@ -1,3 +1,15 @@
+pub use Rattle.packing.specs.AscendingLaws
+pub use Rattle.packing.specs.Frames
+pub use Rattle.packing.specs.ListPlaces
+pub use Rattle.packing.specs.Lists
+pub use Rattle.packing.specs.Moves
+pub use Rattle.packing.specs.Orders
+pub use Rattle.work_layout.specs.Promise
+pub use Rattle.work_layout.specs.Refinement
+pub use Rattle.packing.specs.Sheet
+pub use Rattle.packing.specs.SheetLimits
+pub use Rattle.threads_beside.specs.ThreadsBeside
+pub use Rattle.work_layout.specs.WorkLayout
 pub mod NodesToVisit
 pub mod NodesToVisitLaws
 pub mod StoredEntry

@@ -1,9 +1,9 @@
 -- Nodes with threads beside them that are still to be visited, in the work slice: entry i has three numbers, those of a
 -- configuration with the node's number in the store's place.
 use Rattle.std.specs.Prelude.{◌≡◌, List, ℕ, ◌+◌, ◌-◌, ◌*◌, ◌/◌, ◌≤◌, ◌<◌, get_or}
-use Rattle.list_laws.specs.Tabulate.{tabulate}
-use Rattle.list_laws.specs.Frames.{SameOutside}
-use Rattle.node_moves.specs.NodeMoves.{NodeBeside}
+use Rattle.packing.specs.Tabulate.{tabulate}
+use Rattle.packing.specs.Frames.{SameOutside}
+use Rattle.threads_beside.specs.NodeMoves.{NodeBeside}
 use Rattle.packing.specs.declared.Numbers.{Numbers}
 use Rattle.packing.specs.Packing.{number0, number1, number2, unpacked, Packed}
 use Rattle.threads_beside.specs.ThreadsBeside.{placed}

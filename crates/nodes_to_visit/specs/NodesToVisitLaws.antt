@@ -4,8 +4,8 @@ use Rattle.std.specs.Prelude.{◌≡◌, refl, Bool, true, false, List, [], ◌�
 use Rattle.std.proofs.Common.{◌∙◌, inl, arith, add-one, pow-suc, eqb-true}
 use Rattle.std.proofs.Math.Nat.{pow-le-pow_right}
 use Rattle.std.proofs.lemmas.Bool.{eqb-false}
-use Rattle.list_laws.specs.Tabulate.{tabulate_next, tabulate_same}
-use Rattle.node_moves.specs.NodeMoves.{NodeBeside}
+use Rattle.packing.specs.Tabulate.{tabulate_next, tabulate_same}
+use Rattle.threads_beside.specs.NodeMoves.{NodeBeside}
 use Rattle.packing.specs.Packing.{unpacked, Packed}
 use Rattle.threads_beside.specs.ThreadsBeside.{placed}
 use Rattle.nodes_to_visit.specs.NodesToVisit.{PendingPacked, pending_one, pending_in, Pushed}

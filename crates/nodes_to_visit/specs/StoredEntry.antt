@@ -2,9 +2,9 @@
 use Rattle.std.specs.Prelude.{◌≡◌, List, ℕ, ◌+◌, ◌*◌, ◌≤◌, ◌<◌, length, get_or, set}
 use Rattle.std.proofs.Common.{◌∙◌, arith}
 use Rattle.std.proofs.Math.ListN.{length-set}
-use Rattle.std.proofs.Math.Seq.{get_or-set_same, get_or_set_other}
-use Rattle.list_laws.specs.Frames.{SameOutside, outside_set, outside_again}
-use Rattle.node_moves.specs.NodeMoves.{NodeBeside}
+use Rattle.std.proofs.Math.Seq.{get_or-set_same, get_or-set_other}
+use Rattle.packing.specs.Frames.{SameOutside, outside_set, outside_again}
+use Rattle.threads_beside.specs.NodeMoves.{NodeBeside}
 use Rattle.packing.specs.Packing.{unpacked, Packed}
 use Rattle.threads_beside.specs.ThreadsBeside.{placed}
 use Rattle.nodes_to_visit.specs.NodesToVisit.{Pushed}
@@ -19,13 +19,13 @@ module _ (v : List ℕ) (p a b c : ℕ) (room : p + 3 ≤ length v) where
   stored_0 : get_or stored p 0 ≡ a
   unfolding stored
   stored_0 =
-      get_or_set_other (set (set v p a) (p + 1) b) (p + 2) p c 0 (omega arith)
-      ∙ get_or_set_other (set v p a) (p + 1) p b 0 (omega arith) ∙ get_or-set_same v p a 0 (omega arith)
+      get_or-set_other (set (set v p a) (p + 1) b) (p + 2) p c 0 (omega arith)
+      ∙ get_or-set_other (set v p a) (p + 1) p b 0 (omega arith) ∙ get_or-set_same v p a 0 (omega arith)
 
   stored_1 : get_or stored (p + 1) 0 ≡ b
   unfolding stored
   stored_1 =
-      get_or_set_other (set (set v p a) (p + 1) b) (p + 2) (p + 1) c 0 (omega arith)
+      get_or-set_other (set (set v p a) (p + 1) b) (p + 2) (p + 1) c 0 (omega arith)
       ∙ get_or-set_same (set v p a) (p + 1) b 0 (simp length-set (omega arith))
 
   stored_2 : get_or stored (p + 2) 0 ≡ c

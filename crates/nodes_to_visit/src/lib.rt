@@ -1,7 +1,9 @@
 // Nodes with threads beside them, stored in the work slice until they are visited.
+#![tactic(auto)]
+
 ghost use Rattle.std.specs.Prelude.{◌≡◌, ℕ, ◌+◌, ◌*◌, ◌≤◌, ◌<◌, length};
-ghost use Rattle.list_laws.specs.RaisedNumbers.{Raised};
-ghost use Rattle.sheet_laws.specs.Ranks.{rank_of};
+ghost use Rattle.packing.specs.RaisedNumbers.{Raised};
+ghost use Rattle.threads_beside.specs.Ranks.{rank_of};
 ghost use Rattle.packing.specs.Packing.{PackedIn};
 ghost use Rattle.threads_beside.specs.ThreadsBeside.{node_beside, node_for};
 ghost use Rattle.nodes_to_visit.specs.NodesToVisit.{PendingPacked, pending_one, Pushed, Entered};

@@ -1,3 +1,12 @@
+pub use Rattle.list_laws.specs.AscendingLaws
+pub use Rattle.list_laws.specs.Counting
+pub use Rattle.list_laws.specs.Frames
+pub use Rattle.list_laws.specs.ListPlaces
+pub use Rattle.list_laws.specs.Lists
+pub use Rattle.list_laws.specs.Members
+pub use Rattle.list_laws.specs.PlacesPassed
+pub use Rattle.list_laws.specs.Tabulate
+pub use Rattle.list_laws.specs.TabulateLaws
 pub mod NumberLists
 pub mod NumberLaws
 pub mod Placing

@@ -1,10 +1,10 @@
 -- Laws of the numbers of a part: by their places, where the part is empty, longer or split, and where slices agree on it.
 use Rattle.std.specs.Prelude.{◌≡◌, ◌⊎◌, ℕ, ◌+◌, ◌-◌, ◌≤◌, ◌<◌, length, get_or, take, drop}
-use Rattle.std.proofs.Common.{sym, ap, ap₂, ◌∙◌, subst, arith, take-add, drop_drop, ltb-true}
+use Rattle.std.proofs.Common.{sym, ap, ap₂, ◌∙◌, subst, arith, take-add, drop-drop, ltb-true}
 use mathlib.Core.List.{List, [], ◌∷◌, ◌++◌, Memᴰ}
 use Rattle.list_laws.specs.Tabulate.{tabulate, tabulate_next, tabulate_length}
 use Rattle.list_laws.specs.TabulateLaws.{part_tabulate, mem_tabulate, tabulate_mem, ascends_at}
-use Rattle.lists.specs.Lists.{Ascends, none_left}
+use Rattle.list_laws.specs.Lists.{Ascends, none_left}
 use Rattle.list_laws.specs.Frames.{SameOutside, part_same, outside_between}
 use Rattle.list_laws.specs.AscendingLaws.{number_order}
 use Rattle.number_lists.specs.NumberLists.{numbers_in}
@@ -29,7 +29,7 @@ numbers_split w from mid end h k =
     ap (λ (n : ℕ). take n (drop from w)) e
     ∙ take-add (mid - from) (end - mid) (drop from w)
     ∙ ap (λ (l : List ℕ). take (mid - from) (drop from w) ++ take (end - mid) l)
-    (drop_drop (mid - from) from w ∙ ap (λ (n : ℕ). drop n w) d)
+    (drop-drop (mid - from) from w ∙ ap (λ (n : ℕ). drop n w) d)
 
 -- slices of one length that agree on the places of a part have the same numbers there
 pub numbers_same : (v w : List ℕ) (from end : ℕ) → length w ≡ length v → ((i : ℕ) → from ≤ i → i < end → get_or w i 0 ≡ get_or v i 0)

@@ -1,9 +1,9 @@
 -- Rows for the search: the order of all sets of three facts, and what is found and counted on document 01's sheet K, on sheets with several
 -- labels, and with a fact that always stands; one statement proves them all.
 use Rattle.std.specs.Prelude.{◌≡◌, refl, true, false, List, [], ◌∷◌, ℕ}
-use Rattle.stores.specs.FactSets.{digit}
-use Rattle.stores.specs.Stores.{Rule, closure, passes, pass, conclusions}
-use Rattle.sheets.specs.Sheet.{Sheet}
+use Rattle.moves.specs.FactSets.{digit}
+use Rattle.moves.specs.Stores.{Rule, closure, passes, pass, conclusions}
+use Rattle.moves.specs.Sheet.{Sheet}
 use Rattle.ordered_search.specs.OrderedSearch.{fact_count, comes_first, candidates_below, candidates, search_over, label_search}
 
 abbrev rule : ℕ → ℕ → Rule

@@ -2,10 +2,10 @@
 -- number on a tie. A set that includes a label found before is skipped; any other is counted, and is a label where it is closed and
 -- makes the asked set true.
 use Rattle.std.specs.Prelude.{Bool, cond, ◌&&◌, ◌||◌, List, [], ◌∷◌, ◌++◌, ℕ, zero, suc, ◌+◌, ◌^◌, eqb, ltb}
-use Rattle.lists.specs.Lists.{select, any, concat_map}
-use Rattle.stores.specs.FactSets.{digit}
-use Rattle.stores.specs.Stores.{closure, includes}
-use Rattle.sheets.specs.Sheet.{Sheet}
+use Rattle.moves.specs.Lists.{select, any, concat_map}
+use Rattle.moves.specs.FactSets.{digit}
+use Rattle.moves.specs.Stores.{closure, includes}
+use Rattle.moves.specs.Sheet.{Sheet}
 use Rattle.moves.specs.Moves.{count_up, makes_true}
 
 -- how many of the first n facts a set has

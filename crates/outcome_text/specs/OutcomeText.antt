@@ -1,10 +1,10 @@
 -- What printing the call's answer does.
 use Rattle.std.specs.Prelude.{◌≡◌, cond, List, [], ◌∷◌, ◌++◌, ℕ, ◌≤◌, length, take, drop, ltb}
-use Rattle.printed_lines.specs.Lines.{line, refused_word}
-use Rattle.comparison.specs.Report.{report_bytes, report_length, Compares}
-use Rattle.comparison.specs.Outcome.{reported, refusal}
-use Rattle.comparison.specs.Print.{printed}
-use Rattle.answer_laws.specs.Fitting.{Fitting}
+use Rattle.text.specs.Lines.{line, refused_word}
+use Rattle.answers.specs.Report.{report_bytes, report_length, Compares}
+use Rattle.answers.specs.Outcome.{reported, refusal}
+use Rattle.answers.specs.Print.{printed}
+use Rattle.report_text.specs.Fitting.{Fitting}
 use Rattle.report_text.specs.AnswerText.{answer_text}
 use Rattle.answers.specs.declared.Answer.{Answer}
 use Rattle.answers.specs.declared.Answer.TheVariants.{Report, Refused}

@@ -2,14 +2,14 @@
 use Rattle.std.specs.Prelude.{◌≡◌, refl, Bool, true, false, cond, List, [], ◌∷◌, ◌++◌, ℕ, ◌≤◌, ◌<◌, length, take, drop, ltb}
 use Rattle.std.proofs.Common.{sym, ap, ap₂, ◌∙◌, subst, arith, le-ltb, lt-ltb}
 use Rattle.std.proofs.Math.Seq.{take-append_seam}
-use Rattle.printed_lines.specs.Lines.{line, refused_word}
-use Rattle.comparison.specs.Report as spec
-use Rattle.comparison.specs.Report.{Verdict, SAME, DIFF, report_bytes, report_length, Compares}
-use Rattle.comparison.specs.Outcome.{reported, refusal}
-use Rattle.comparison.specs.Call.{answer_after, compare}
-use Rattle.comparison.specs.Print.{printed}
-use Rattle.comparison.specs.CallLimits.{limits}
-use Rattle.answer_laws.specs.FittingLaws.{outcome_fits}
+use Rattle.text.specs.Lines.{line, refused_word}
+use Rattle.answers.specs.Report as spec
+use Rattle.answers.specs.Report.{Verdict, SAME, DIFF, report_bytes, report_length, Compares}
+use Rattle.answers.specs.Outcome.{reported, refusal}
+use Rattle.answers.specs.Call.{answer_after, compare}
+use Rattle.answers.specs.Print.{printed}
+use Rattle.answers.specs.CallLimits.{limits}
+use Rattle.report_text.specs.FittingLaws.{outcome_fits}
 use Rattle.text.specs.Slices.{line_room, Written}
 use Rattle.report_text.specs.ReportText as report
 use Rattle.report_text.specs.ReportText.{ReportWritten}

@@ -1,4 +1,6 @@
 // The text that the program prints of what the call returned.
+#![tactic(auto)]
+
 ghost use Rattle.std.specs.Prelude.{◌≤◌, length};
 ghost use Rattle.outcome_text.specs.OutcomeText.{OutcomeWritten, OutcomeStored};
 ghost use Rattle.outcome_text.specs.TextRoom.{text_room};

@@ -1,6 +1,6 @@
 -- Three numbers compared from the left, one law for each way that they can differ.
 use Rattle.std.specs.Prelude.{◌≡◌, Bool, true, false, ℕ, ◌≤◌, ◌<◌}
-use Rattle.std.proofs.Common.{sym, ap, ap₂, arith, eq_eqb, ne_eqb, lt-ltb, le-ltb}
+use Rattle.std.proofs.Common.{sym, ap, ap₂, arith, eq-eqb, ne_eqb, lt-ltb, le-ltb}
 use Rattle.packing.specs.declared.Numbers.{Numbers}
 use Rattle.packing.specs.Packing.{numbers_before, side_of, before}
 
@@ -11,16 +11,16 @@ more_first : (a b c x y z : ℕ) → x < a → numbers_before a b c x y z ≡ fa
 more_first a b c x y z h = rw (ne_eqb a x (λ q. omega arith), le-ltb a x (omega arith))
 
 less_second : (a b c x y z : ℕ) → a ≡ x → b < y → numbers_before a b c x y z ≡ true
-less_second a b c x y z e h = rw (eq_eqb a x e, ne_eqb b y (λ q. omega arith), lt-ltb b y h)
+less_second a b c x y z e h = rw (eq-eqb a x e, ne_eqb b y (λ q. omega arith), lt-ltb b y h)
 
 more_second : (a b c x y z : ℕ) → a ≡ x → y < b → numbers_before a b c x y z ≡ false
-more_second a b c x y z e h = rw (eq_eqb a x e, ne_eqb b y (λ q. omega arith), le-ltb b y (omega arith))
+more_second a b c x y z e h = rw (eq-eqb a x e, ne_eqb b y (λ q. omega arith), le-ltb b y (omega arith))
 
 less_third : (a b c x y z : ℕ) → a ≡ x → b ≡ y → c < z → numbers_before a b c x y z ≡ true
-less_third a b c x y z e f h = rw (eq_eqb a x e, eq_eqb b y f, lt-ltb c z h)
+less_third a b c x y z e f h = rw (eq-eqb a x e, eq-eqb b y f, lt-ltb c z h)
 
 not_third : (a b c x y z : ℕ) → a ≡ x → b ≡ y → z ≤ c → numbers_before a b c x y z ≡ false
-not_third a b c x y z e f h = rw (eq_eqb a x e, eq_eqb b y f, le-ltb c z h)
+not_third a b c x y z e f h = rw (eq-eqb a x e, eq-eqb b y f, le-ltb c z h)
 
 -- the side of one struct beside another
 abbrev pub compared : Numbers → Numbers → ℕ

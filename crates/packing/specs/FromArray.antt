@@ -1,9 +1,9 @@
 -- The three numbers worked out from a store, a count and an array of threads.
 use Rattle.std.specs.Prelude.{◌≡◌, ℕ, suc, ◌+◌, ◌*◌, ◌≤◌, ◌<◌, length, get_or, take, drop}
-use Rattle.std.proofs.Common.{sym, ap, ap₂, ◌∙◌, subst, arith, length-take, get_or-drop, get_or_take, length-take-le}
+use Rattle.std.proofs.Common.{sym, ap, ap₂, ◌∙◌, subst, arith, length-take, get_or-drop, get_or-take, length-take-le}
 use mathlib.Core.List.Memᴰ
 use mathlib.Core.List.{List, [], ◌∷◌, Memᴰ}
-use Rattle.sheets.specs.Sheet.{Configuration}
+use Rattle.moves.specs.Sheet.{Configuration}
 use Rattle.packing.specs.Packing.{bytes_after, number0, number1, number2, unpacked, Packed, Fits}
 use Rattle.packing.specs.PackingLaws.{unpacked_numbers, packed_numbers}
 
@@ -38,7 +38,7 @@ array_fits s count ts h l b =
     record {
       few = omega (arith, length-take count ts);
       bytes = mem_below (take count ts) 256
-          (λ k i. omega (arith, length-take count ts, get_or_take count ts k 0 (omega (arith, length-take count ts)), b k (omega (arith, length-take count ts))));
+          (λ k i. omega (arith, length-take count ts, get_or-take count ts k 0 (omega (arith, length-take count ts)), b k (omega (arith, length-take count ts))));
       small = h;
     }
 

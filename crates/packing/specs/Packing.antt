@@ -1,7 +1,7 @@
 -- A configuration as three numbers: its store with the number of its threads, its first four threads, its last four.
 use Rattle.std.specs.Prelude.{◌≡◌, Bool, true, false, cond, ℕ, zero, suc, ◌+◌, ◌*◌, ◌/◌, ◌%◌, ◌≤◌, ◌<◌, length, take, drop, eqb, ltb}
 use mathlib.Core.List.{List, [], ◌∷◌, Memᴰ}
-use Rattle.sheets.specs.Sheet.{Configuration}
+use Rattle.moves.specs.Sheet.{Configuration}
 use Rattle.packing.specs.declared.Numbers.{Numbers}
 
 -- k bytes from the left put after a number; 0 where the list has ended

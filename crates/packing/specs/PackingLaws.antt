@@ -1,11 +1,11 @@
 -- Comparing the three numbers of two configurations is the order of configurations.
 use Rattle.std.specs.Prelude.{◌≡◌, refl, Bool, true, false, cond, ℕ, zero, suc, ◌+◌, ◌*◌, ◌/◌, ◌%◌, ◌≤◌, ◌<◌, length, get_or, take, drop, eqb, ltb}
-use Rattle.std.proofs.Common.{sym, ap, ap₂, ◌∙◌, subst, arith, drop_of_length-le, length-drop, length-take, get_or-drop, eqb-true, eq_eqb, ne_eqb, ltb-true, ltb-false, lt-ltb, le-ltb}
+use Rattle.std.proofs.Common.{sym, ap, ap₂, ◌∙◌, subst, arith, drop_of_length-le, length-drop, length-take, get_or-drop, eqb-true, eq-eqb, ne_eqb, ltb-true, ltb-false, lt-ltb, le-ltb}
 use mathlib.Core.List.Memᴰ
 use mathlib.Core.List.{List, [], ◌∷◌, Memᴰ}
 use Rattle.std.proofs.lemmas.Bool.{eqb-false}
 use Rattle.list_laws.specs.TestLaws.{true_false}
-use Rattle.sheets.specs.Sheet.{Configuration}
+use Rattle.moves.specs.Sheet.{Configuration}
 use Rattle.moves.specs.Orders.{leftmost, configuration_before}
 use Rattle.packing.specs.declared.Numbers.{Numbers}
 use Rattle.packing.specs.Packing.{bytes_after, number0, number1, number2, Fits, numbers_before, unpacked, Packed, eight_bytes, side_of, stands_for, PackedIn, before}
@@ -31,8 +31,8 @@ after_less (suc k) a b (x ∷ xs) (y ∷ ys) p q h =
 -- lists of one length: the first k from the left as a number, then the rest
 after_leftmost : (k a : ℕ) (xs ys : List ℕ) → Bytes xs → Bytes ys → length xs ≡ length ys
     → leftmost xs ys ≡ cond (eqb (bytes_after a k xs) (bytes_after a k ys)) (leftmost (drop k xs) (drop k ys)) (ltb (bytes_after a k xs) (bytes_after a k ys))
-after_leftmost zero a xs ys p q l = rw (eq_eqb a a refl)
-after_leftmost (suc k) a [] [] p q l = rw (eq_eqb (bytes_after (a * 256) k []) (bytes_after (a * 256) k []) refl)
+after_leftmost zero a xs ys p q l = rw (eq-eqb a a refl)
+after_leftmost (suc k) a [] [] p q l = rw (eq-eqb (bytes_after (a * 256) k []) (bytes_after (a * 256) k []) refl)
 after_leftmost (suc k) a [] (y ∷ ys) p q l = absurd (omega arith)
 after_leftmost (suc k) a (x ∷ xs) [] p q l = absurd (omega arith)
 after_leftmost (suc k) a (x ∷ xs) (y ∷ ys) p q l =
@@ -130,7 +130,7 @@ packed_before p q f g =
         go true u true v =
             let i : s ≡ s' = eqb-true s s' u in
             let j : n ≡ n' = eqb-true n n' v in
-            rw (eq_eqb (s * 256 + n) (s' * 256 + n') (omega arith)) (e j)
+            rw (eq-eqb (s * 256 + n) (s' * 256 + n') (omega arith)) (e j)
         go true u false v =
             let i : s ≡ s' = eqb-true s s' u in
             let j : n ≡ n' → ⊥ = eqb-false n n' v in

@@ -1,4 +1,6 @@
 // A configuration as three numbers of 32 bits. Compared from the left they stand in the order of configurations.
+#![tactic(auto)]
+
 ghost use Rattle.std.specs.Prelude.{◌≡◌, ◌+◌, ◌*◌, ◌≤◌, ◌<◌, length, get_or, take, drop};
 ghost use Rattle.packing.specs.Packing.{bytes_after, eight_bytes, side_of, stands_for, PackedIn, before};
 ghost use Rattle.packing.specs.Bytes.{byte_of};

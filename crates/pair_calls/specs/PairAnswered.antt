@@ -2,15 +2,15 @@
 use Rattle.std.specs.Prelude.{◌≡◌, refl, ℕ, ◌≤◌, length}
 use Rattle.std.proofs.Common.{sym, ap, ap₂, ◌∙◌, subst, arith}
 use mathlib.Core.List.{List, Memᴰ}
-use Rattle.sheets.specs.Sheet.{Configuration, Sheet, start}
-use Rattle.sheet_types.specs.HeldSheet.{configuration}
-use Rattle.comparison.specs.CallLimits.{Limits}
-use Rattle.comparison.specs.Set.{explored}
-use Rattle.comparison.specs.Outcome.{Outcome, refusal, written_after, cleared}
-use Rattle.comparison.specs.Frame.{with_room}
-use Rattle.comparison.specs.Promise.{starts_of}
-use Rattle.comparison_laws.specs.SetLaws.{fits_not_over, explored_closed, explored_ascends, explored_seeds}
-use Rattle.work_layout.specs.WorkLayout.{work_end}
+use Rattle.call_frame.specs.Sheet.{Configuration, Sheet, start}
+use Rattle.two_starts.specs.HeldSheet.{configuration}
+use Rattle.call_frame.specs.CallLimits.{Limits}
+use Rattle.call_frame.specs.Set.{explored}
+use Rattle.call_frame.specs.Outcome.{Outcome, refusal, written_after, cleared}
+use Rattle.call_frame.specs.Frame.{with_room}
+use Rattle.call_frame.specs.Promise.{starts_of}
+use Rattle.two_starts.specs.SetLaws.{fits_not_over, explored_closed, explored_ascends, explored_seeds}
+use Rattle.call_frame.specs.WorkLayout.{work_end}
 use Rattle.two_starts.specs.TwoStarts.{StartsHeld, StartsReady, PairMade}
 use Rattle.call_frame.specs.declared.Begun.TheVariants.{Set, Refused}
 use Rattle.call_frame.specs.declared.Started.{Started}

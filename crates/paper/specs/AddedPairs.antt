@@ -1,11 +1,11 @@
 -- Pairs of a relation with a constraint added to both sides: as symmetric, with the same barbs, and upward closed.
 use Rattle.std.specs.Prelude.{◌≡◌, refl, ℕ}
 use Rattle.std.proofs.Common.{sym, ap, ◌∙◌, subst}
-use Rattle.stores.specs.FactSets.{Within}
-use Rattle.stores.specs.Stores.{join, least_store}
-use Rattle.sheets.specs.Sheet.{Sheet}
-use Rattle.sheets.specs.WellFormed.{WellFormed}
-use Rattle.move_laws.specs.LabelLaws.{least_constraint}
+use Rattle.comparison_laws.specs.FactSets.{Within}
+use Rattle.comparison_laws.specs.Stores.{join, least_store}
+use Rattle.comparison_laws.specs.Sheet.{Sheet}
+use Rattle.comparison_laws.specs.WellFormed.{WellFormed}
+use Rattle.comparison_laws.specs.LabelLaws.{least_constraint}
 use Rattle.comparison_laws.specs.SheetMoves.{conclusions_fit, join_constraint}
 use Rattle.paper.specs.Terms.{Conf}
 use Rattle.paper.specs.Bisimulations.{Con, with_added, Symmetric, KeepsBarbs}

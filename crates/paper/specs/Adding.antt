@@ -1,10 +1,10 @@
 -- Laws of adding a constraint to one of the paper's configurations, and the transitions that the reductions come from then.
 use Rattle.std.specs.Prelude.{◌≡◌, ℕ}
 use Rattle.std.proofs.Common.{ap, subst}
-use Rattle.stores.specs.FactSets.{Within}
-use Rattle.stores.specs.Stores.{Closed, join, least_store}
-use Rattle.store_laws.specs.StoreLaws.{join_assoc}
-use Rattle.sheets.specs.Sheet.{Sheet}
+use Rattle.comparison_laws.specs.FactSets.{Within}
+use Rattle.comparison_laws.specs.Stores.{Closed, join, least_store}
+use Rattle.comparison_laws.specs.StoreLaws.{join_assoc}
+use Rattle.comparison_laws.specs.Sheet.{Sheet}
 use Rattle.paper.specs.Terms.{Conf}
 use Rattle.paper.specs.Tables.{Reduction}
 use Rattle.paper.specs.Bisimulations.{Con, Reduces, Moves, with_added}

@@ -2,13 +2,13 @@
 -- label is added (sound), and a reduction with a constraint added comes from a transition with a label below it (complete).
 use Rattle.std.specs.Prelude.{◌≡◌, refl, ◌↔◌, ℕ}
 use Rattle.std.proofs.Common.{sym, ap, ◌∙◌, subst}
-use Rattle.stores.specs.FactSets.{Within}
-use Rattle.store_laws.specs.FactSetLaws.{within_trans}
-use Rattle.stores.specs.Stores.{Closed, join, least_store}
-use Rattle.store_laws.specs.StoreLaws.{join_left, join_right, join_closed, join_comm, join_assoc, within_join, least_within, below_least}
-use Rattle.sheets.specs.Sheet.{Sheet}
-use Rattle.sheets.specs.WellFormed.{WellFormed}
-use Rattle.move_laws.specs.LabelLaws.{label_below, least_constraint}
+use Rattle.comparison_laws.specs.FactSets.{Within}
+use Rattle.comparison_laws.specs.FactSetLaws.{within_trans}
+use Rattle.comparison_laws.specs.Stores.{Closed, join, least_store}
+use Rattle.comparison_laws.specs.StoreLaws.{join_left, join_right, join_closed, join_comm, join_assoc, within_join, least_within, below_least}
+use Rattle.comparison_laws.specs.Sheet.{Sheet}
+use Rattle.comparison_laws.specs.WellFormed.{WellFormed}
+use Rattle.comparison_laws.specs.LabelLaws.{label_below, least_constraint}
 use Rattle.comparison_laws.specs.SheetMoves.{conclusions_fit}
 use Rattle.paper.specs.Terms.{Term, nil, tell, ask}
 use Rattle.paper.specs.Tables.{Reduction, R1, R2, R3_left, R3_right, R4_left, R4_right, R6, Minimal, Transition, LR1, LR2, LR3_left, LR3_right, LR4_left, LR4_right, LR6}

@@ -3,7 +3,7 @@
 -- before, as the text says ("any iteration splits blocks and never fuses them"), which IR alone does not give.
 use Rattle.std.specs.Prelude.{◌≡◌, ℕ, zero, suc}
 use mathlib.Core.List.{List, Memᴰ}
-use Rattle.sheets.specs.Sheet.{Sheet}
+use Rattle.comparison_laws.specs.Sheet.{Sheet}
 use Rattle.paper.specs.Terms.{Conf}
 use Rattle.paper.specs.Bisimulations.{Moves, Derives, RedundantIn}
 

@@ -2,13 +2,13 @@
 use Rattle.std.specs.Prelude.{◌≡◌, refl, ◌↔◌, ℕ, zero, suc}
 use Rattle.std.proofs.Common.{sym, ap, ap₂, ◌∙◌, subst}
 use mathlib.Core.List.{List, [], ◌++◌, map, Memᴰ}
-use Rattle.list_laws.specs.Members.{map_mem}
-use Rattle.lists.specs.Lists.{sort_up}
-use Rattle.sheets.specs.Sheet.{Node, Configuration, Sheet, opened}
-use Rattle.sheets.specs.WellFormed.{WellFormed}
-use Rattle.moves.specs.Moves.{add}
-use Rattle.refinement.specs.Refinement.{Member, seed, target, added, Answered, Round}
-use Rattle.comparison.specs.SheetTransitions.{transitions}
+use Rattle.comparison_laws.specs.Members.{map_mem}
+use Rattle.comparison_laws.specs.Lists.{sort_up}
+use Rattle.comparison_laws.specs.Sheet.{Node, Configuration, Sheet, opened}
+use Rattle.comparison_laws.specs.WellFormed.{WellFormed}
+use Rattle.comparison_laws.specs.Moves.{add}
+use Rattle.comparison_laws.specs.Refinement.{Member, seed, target, added, Answered, Round}
+use Rattle.comparison_laws.specs.SheetTransitions.{transitions}
 use Rattle.paper.specs.Terms.{Term, nil, tell, ask, parallel, choice, call, Conf, Opens, opens_nil, opens_call, opens_parallel, Reads}
 use Rattle.paper.specs.Bisimulations.{with_added}
 use Rattle.paper.specs.Agreement.{transition_constraint}

@@ -1,9 +1,9 @@
 -- Source 001, section 4: two configurations satisfy the same barbs exactly when they have the same store.
 use Rattle.std.specs.Prelude.{◌≡◌, ◌↔◌, ℕ}
 use Rattle.std.proofs.Common.{sym, subst}
-use Rattle.stores.specs.FactSets.{Within}
-use Rattle.store_laws.specs.FactSetLaws.{within_refl, within_antisym}
-use Rattle.sheets.specs.Sheet.{Sheet}
+use Rattle.comparison_laws.specs.FactSets.{Within}
+use Rattle.comparison_laws.specs.FactSetLaws.{within_refl, within_antisym}
+use Rattle.comparison_laws.specs.Sheet.{Sheet}
 use Rattle.paper.specs.Terms.{Conf}
 use Rattle.paper.specs.Bisimulations.{Con, KeepsBarbs, Symmetric}
 

@@ -3,14 +3,14 @@
 use Rattle.std.proofs.Common.{sym, ap, ◌∙◌, subst}
 use Rattle.std.specs.Prelude.{◌↔◌, ℕ}
 use mathlib.Core.List.{Memᴰ}
-use Rattle.stores.specs.FactSets.{Within}
-use Rattle.stores.specs.Stores.{join, least_store}
-use Rattle.store_laws.specs.StoreLaws.{join_comm}
-use Rattle.sheets.specs.Sheet.{Configuration, Sheet}
-use Rattle.sheets.specs.WellFormed.{OfSheet, WellFormed}
-use Rattle.moves.specs.Moves.{add}
-use Rattle.refinement.specs.Refinement.{Bisimulation, Bisimilar}
-use Rattle.comparison.specs.SheetTransitions.{transitions}
+use Rattle.comparison_laws.specs.FactSets.{Within}
+use Rattle.comparison_laws.specs.Stores.{join, least_store}
+use Rattle.comparison_laws.specs.StoreLaws.{join_comm}
+use Rattle.comparison_laws.specs.Sheet.{Configuration, Sheet}
+use Rattle.comparison_laws.specs.WellFormed.{OfSheet, WellFormed}
+use Rattle.comparison_laws.specs.Moves.{add}
+use Rattle.comparison_laws.specs.Refinement.{Bisimulation, Bisimilar}
+use Rattle.comparison_laws.specs.SheetTransitions.{transitions}
 use Rattle.comparison_laws.specs.SheetMoves.{lawful, move_of_lem}
 use Rattle.paper.specs.Terms.{Conf, Reads, side_by_side}
 use Rattle.paper.specs.Bisimulations.{Con, Moves, with_added, SaturatedBarbedBisimulation, SaturatedBarbedBisimilar}

@@ -1,8 +1,8 @@
 -- Source 001, sections 2 and 3: barbs and Definitions 2 to 7, over the paper's configurations of a sheet, as they are printed.
 use Rattle.std.specs.Prelude.{◌≡◌, ℕ}
-use Rattle.stores.specs.FactSets.{Within}
-use Rattle.stores.specs.Stores.{Constraint, join}
-use Rattle.sheets.specs.Sheet.{Sheet}
+use Rattle.comparison_laws.specs.FactSets.{Within}
+use Rattle.comparison_laws.specs.Stores.{Constraint, join}
+use Rattle.comparison_laws.specs.Sheet.{Sheet}
 use Rattle.paper.specs.Terms.{Term, Conf}
 use Rattle.paper.specs.Tables.{Reduction, Transition}
 

@@ -5,14 +5,14 @@ use Rattle.std.proofs.Math.Path.{sym, ap, subst}
 use Rattle.std.proofs.Common.{ap₂, ◌∙◌}
 use mathlib.Core.List.{List, [], ◌∷◌, ◌++◌, Memᴰ}
 use Prim.Native.Nat.{ℕ}
-use Rattle.lists.specs.Lists.{sort_up}
-use Rattle.list_laws.specs.AscendingLaws.{sort_up_only, sort_up_same, arrange_keeps, arrange_only}
-use Rattle.stores.specs.Stores.{least_store}
-use Rattle.sheets.specs.Sheet.{Configuration, Sheet, opened}
-use Rattle.sheets.specs.WellFormed.{Process, WellFormed}
-use Rattle.moves.specs.Orders.{Move}
-use Rattle.move_laws.specs.OrderLaws.{move_order}
-use Rattle.moves.specs.Moves.{moves_from, moves, Moves as SheetMoves, Reduces as SheetReduces}
+use Rattle.comparison_laws.specs.Lists.{sort_up}
+use Rattle.comparison_laws.specs.AscendingLaws.{sort_up_only, sort_up_same, arrange_keeps, arrange_only}
+use Rattle.comparison_laws.specs.Stores.{least_store}
+use Rattle.comparison_laws.specs.Sheet.{Configuration, Sheet, opened}
+use Rattle.comparison_laws.specs.WellFormed.{Process, WellFormed}
+use Rattle.comparison_laws.specs.Orders.{Move}
+use Rattle.comparison_laws.specs.OrderLaws.{move_order}
+use Rattle.comparison_laws.specs.Moves.{moves_from, moves, Moves as SheetMoves, Reduces as SheetReduces}
 use Rattle.paper.specs.Terms.{Term, call, Conf, Opens, opens_nil, opens_call, opens_parallel, Reads, side_by_side}
 use Rattle.paper.specs.Bisimulations.{Con, Moves, Reduces}
 use Rattle.paper.specs.Agreement.{reduction_transition}

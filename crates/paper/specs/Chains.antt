@@ -1,8 +1,8 @@
 -- Chains of pairs of a relation. Where the relation is symmetric, keeps barbs, is upward closed and answers reductions by chains,
 -- the chains are a saturated barbed bisimulation.
 use Rattle.std.specs.Prelude.{ℕ}
-use Rattle.stores.specs.FactSets.{Within}
-use Rattle.sheets.specs.Sheet.{Sheet}
+use Rattle.comparison_laws.specs.FactSets.{Within}
+use Rattle.comparison_laws.specs.Sheet.{Sheet}
 use Rattle.paper.specs.Terms.{Conf}
 use Rattle.paper.specs.Bisimulations.{Con, Reduces, with_added, Symmetric, KeepsBarbs, SaturatedBarbedBisimulation}
 

@@ -4,13 +4,13 @@
 use Rattle.std.specs.Prelude.{◌≡◌, refl, Bool, true, false, ℕ, ◌^◌, ◌≤◌, length, ltb}
 use Rattle.std.proofs.Common.{sym, ap, subst, arith, ltb-true, ltb-false}
 use Rattle.std.proofs.Math.ListN.{get_or-eq_default}
-use Rattle.stores.specs.FactSets.{Within}
-use Rattle.store_laws.specs.FactSetLaws.{within_le}
-use Rattle.stores.specs.Stores.{join}
-use Rattle.store_laws.specs.StoreLaws.{join_right}
-use Rattle.sheets.specs.Sheet as sheet
-use Rattle.sheets.specs.Sheet.{Node, Sheet, node_of}
-use Rattle.sheets.specs.WellFormed.{NodeFits, WellFormed}
+use Rattle.comparison_laws.specs.FactSets.{Within}
+use Rattle.comparison_laws.specs.FactSetLaws.{within_le}
+use Rattle.comparison_laws.specs.Stores.{join}
+use Rattle.comparison_laws.specs.StoreLaws.{join_right}
+use Rattle.comparison_laws.specs.Sheet as sheet
+use Rattle.comparison_laws.specs.Sheet.{Node, Sheet, node_of}
+use Rattle.comparison_laws.specs.WellFormed.{NodeFits, WellFormed}
 use Rattle.comparison_laws.specs.SheetMoves.{join_constraint}
 use Rattle.paper.specs.Terms.{Term, nil, tell, ask, parallel, choice, call, Conf, body_of, defined}
 use Rattle.paper.specs.Tables.{Reduction, R1, R2, R3_left, R3_right, R4_left, R4_right, R6, Transition, LR1, LR2, LR3_left, LR3_right, LR4_left, LR4_right, LR6}

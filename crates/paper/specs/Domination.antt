@@ -2,10 +2,10 @@
 -- constraint added to both sides answer each other's reductions, by chains.
 use Rattle.std.specs.Prelude.{refl, ℕ, zero, suc, ◌<◌}
 use Rattle.std.proofs.Common.{sym, ap, ◌∙◌, subst, arith}
-use Rattle.stores.specs.FactSets.{Within}
-use Rattle.store_laws.specs.FactSetLaws.{within_refl, within_trans, within_le}
-use Rattle.store_laws.specs.StoreLaws.{join_left, join_right}
-use Rattle.sheets.specs.Sheet.{Sheet}
+use Rattle.comparison_laws.specs.FactSets.{Within}
+use Rattle.comparison_laws.specs.FactSetLaws.{within_refl, within_trans, within_le}
+use Rattle.comparison_laws.specs.StoreLaws.{join_left, join_right}
+use Rattle.comparison_laws.specs.Sheet.{Sheet}
 use Rattle.paper.specs.Terms.{Conf}
 use Rattle.paper.specs.Bisimulations.{Con, Reduces, Moves, with_added, RedundantIn, IrredundantBisimulation}
 use Rattle.paper.specs.Adding.{added_under, added_sound, Origin, origin}

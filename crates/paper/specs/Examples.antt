@@ -4,22 +4,22 @@ use Rattle.std.specs.Prelude.{◌≡◌, refl, ◌↔◌, true, false, ℕ, get_
 use Rattle.std.proofs.Common.{sym, ap, subst, ⊎_elim, arith}
 use mathlib.Core.List.Memᴰ
 use mathlib.Core.List.{List, [], ◌∷◌, Memᴰ}
-use Rattle.list_laws.specs.TestLaws.{true_false}
-use Rattle.lists.specs.Lists.{sort_up}
-use Rattle.stores.specs.FactSets.{Within}
-use Rattle.stores.specs.Stores.{closure, passes, pass, conclusions}
-use Rattle.store_laws.specs.StoreLaws.{closed_by_closure}
-use Rattle.sheets.specs.Sheet.{Configuration, Sheet, open_within, opened}
-use Rattle.sheets.specs.WellFormed.{OfSheet, WellFormed}
-use Rattle.moves.specs.Orders.{Move}
-use Rattle.moves.specs.Moves.{labels, steps_within, moves, Moves as SheetMoves}
-use Rattle.refinement_laws.specs.StableRounds.{member_of}
-use Rattle.comparison.specs.SheetTransitions.{transitions}
+use Rattle.comparison_laws.specs.TestLaws.{true_false}
+use Rattle.comparison_laws.specs.Lists.{sort_up}
+use Rattle.comparison_laws.specs.FactSets.{Within}
+use Rattle.comparison_laws.specs.Stores.{closure, passes, pass, conclusions}
+use Rattle.comparison_laws.specs.StoreLaws.{closed_by_closure}
+use Rattle.comparison_laws.specs.Sheet.{Configuration, Sheet, open_within, opened}
+use Rattle.comparison_laws.specs.WellFormed.{OfSheet, WellFormed}
+use Rattle.comparison_laws.specs.Orders.{Move}
+use Rattle.comparison_laws.specs.Moves.{labels, steps_within, moves, Moves as SheetMoves}
+use Rattle.comparison_laws.specs.StableRounds.{member_of}
+use Rattle.comparison_laws.specs.SheetTransitions.{transitions}
 use Rattle.comparison_laws.specs.SheetMoves.{lawful}
-use Rattle.comparison.specs.CallLimits.{limits}
-use Rattle.comparison.specs.Classes.{numbered_from, share}
-use Rattle.comparison.specs.Set.{over, explored_from, explored}
-use Rattle.comparison.specs.Rounds.{refined, classes, rounds_from, rounds, result_of}
+use Rattle.comparison_laws.specs.CallLimits.{limits}
+use Rattle.comparison_laws.specs.Classes.{numbered_from, share}
+use Rattle.comparison_laws.specs.Set.{over, explored_from, explored}
+use Rattle.comparison_laws.specs.Rounds.{refined, classes, rounds_from, rounds, result_of}
 use Rattle.comparison_laws.specs.SetLaws.{explored_seeds}
 use Rattle.comparison_laws.specs.Theorem.{whole, result_classes, member_some}
 use Rattle.paper.specs.Terms.{nil, choice, call, Conf, opens_call, Reads}

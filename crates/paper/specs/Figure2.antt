@@ -12,18 +12,18 @@
 -- The text speaks of transitions of R' + S and R + S labelled x < 5; by the rules, and in its own list (f), they have the label
 -- z < 5.
 use Rattle.std.specs.Prelude.{◌≡◌, refl, true, false, List, [], ◌∷◌, map, ℕ, zero, suc, length, eqb}
-use Rattle.lists.specs.Lists.{select}
-use Rattle.stores.specs.Stores.{closure, passes, pass, conclusions}
-use Rattle.sheets.specs.Sheet.{tell, ask, either, Configuration, Sheet, open_within}
-use Rattle.sheets.specs.WellFormed.{WellFormed, Admissible}
-use Rattle.sheet_reading.specs.Reading.{got, records_from, count_at, set_at, name_bytes, name_at, names_from, facts_at, rule_at, rules_at, kind_at, first_at, second_at, node_at, nodes_at, thread_at, threads_from, start_at, starts_at, read_sheet}
-use Rattle.sheet_laws.specs.ReadingLaws.{read_admissible}
-use Rattle.moves.specs.Moves.{labels, steps_within, moves}
-use Rattle.comparison.specs.CallLimits.{limits}
-use Rattle.comparison.specs.Classes.{numbered_from, class_of}
-use Rattle.comparison.specs.Set.{explored_from, explored}
-use Rattle.comparison.specs.Rounds.{refined, classes, rounds_from, rounds, result_of}
-use Rattle.comparison.specs.KnownSheets.{bytes_of_paper}
+use Rattle.comparison_laws.specs.Lists.{select}
+use Rattle.comparison_laws.specs.Stores.{closure, passes, pass, conclusions}
+use Rattle.comparison_laws.specs.Sheet.{tell, ask, either, Configuration, Sheet, open_within}
+use Rattle.comparison_laws.specs.WellFormed.{WellFormed, Admissible}
+use Rattle.comparison_laws.specs.Reading.{got, records_from, count_at, set_at, name_bytes, name_at, names_from, facts_at, rule_at, rules_at, kind_at, first_at, second_at, node_at, nodes_at, thread_at, threads_from, start_at, starts_at, read_sheet}
+use Rattle.comparison_laws.specs.ReadingLaws.{read_admissible}
+use Rattle.comparison_laws.specs.Moves.{labels, steps_within, moves}
+use Rattle.comparison_laws.specs.CallLimits.{limits}
+use Rattle.comparison_laws.specs.Classes.{numbered_from, class_of}
+use Rattle.comparison_laws.specs.Set.{explored_from, explored}
+use Rattle.comparison_laws.specs.Rounds.{refined, classes, rounds_from, rounds, result_of}
+use Rattle.comparison_laws.specs.KnownSheets.{bytes_of_paper}
 
 -- ---- the constraints: facts 0 to 4 are z < 7, z < 5, x < 7, x < 5, y = 1
 abbrev pub no_facts : ℕ

@@ -1,8 +1,8 @@
 -- How the paper's bisimilarities lie inside each other: ∼s is inside ∼sb, and ∼sb inside ∼b. (`Theorem1` has ∼I.)
 use Rattle.std.proofs.Common.{sym, subst}
 use Rattle.std.specs.Prelude.{ℕ}
-use Rattle.sheets.specs.Sheet.{Sheet}
-use Rattle.sheets.specs.WellFormed.{WellFormed}
+use Rattle.comparison_laws.specs.Sheet.{Sheet}
+use Rattle.comparison_laws.specs.WellFormed.{WellFormed}
 use Rattle.paper.specs.Terms.{Conf}
 use Rattle.paper.specs.Bisimulations.{Reduces, with_added, SyntacticBisimulation, BarbedBisimilar, SaturatedBarbedBisimilar, SyntacticBisimilar}
 use Rattle.paper.specs.Adding.{added_sound, origin}

@@ -3,10 +3,10 @@
 use Rattle.std.specs.Prelude.{◌≡◌, ℕ}
 use Rattle.std.proofs.Common.{sym, ap, ◌∙◌, subst}
 use Rattle.std.proofs.Math.Decide.{ℕ_discrete}
-use Rattle.stores.specs.FactSets.{Within}
-use Rattle.store_laws.specs.FactSetLaws.{within_trans, within_antisym}
-use Rattle.sheets.specs.Sheet.{Sheet}
-use Rattle.sheets.specs.WellFormed.{WellFormed}
+use Rattle.comparison_laws.specs.FactSets.{Within}
+use Rattle.comparison_laws.specs.FactSetLaws.{within_trans, within_antisym}
+use Rattle.comparison_laws.specs.Sheet.{Sheet}
+use Rattle.comparison_laws.specs.WellFormed.{WellFormed}
 use Rattle.paper.specs.Terms.{Conf}
 use Rattle.paper.specs.Bisimulations.{Con, Reduces, Moves, with_added, RedundantIn, SaturatedBarbedBisimulation, IrredundantBisimulation}
 use Rattle.paper.specs.Agreement.{transition_sound, transition_constraint}

@@ -2,10 +2,10 @@
 -- irredundant in a round is so in the smaller relation.
 use Rattle.std.proofs.Common.{sym, ◌∙◌}
 use Rattle.std.specs.Prelude.{ℕ, zero, suc}
-use Rattle.sheets.specs.Sheet.{Configuration, Sheet}
-use Rattle.sheets.specs.WellFormed.{WellFormed}
-use Rattle.refinement.specs.Refinement.{Answered, Round}
-use Rattle.comparison.specs.SheetTransitions.{transitions}
+use Rattle.comparison_laws.specs.Sheet.{Configuration, Sheet}
+use Rattle.comparison_laws.specs.WellFormed.{WellFormed}
+use Rattle.comparison_laws.specs.Refinement.{Answered, Round}
+use Rattle.comparison_laws.specs.SheetTransitions.{transitions}
 use Rattle.paper.specs.Terms.{Conf, Reads}
 use Rattle.paper.specs.Bisimulations.{IrredundantBisimulation}
 use Rattle.paper.specs.Barbs.{same_stores}

@@ -5,14 +5,14 @@ use borrow.Author.Tests.{not-true}
 use Rattle.std.proofs.Math.Bool.{true, false}
 use mathlib.Core.List.{Memᴰ}
 use Prim.Native.Nat.{ℕ}
-use Rattle.list_laws.specs.TestLaws.{true_false, and_left, and_right, and_intro, not_passes}
-use Rattle.lists.specs.Lists.{any}
-use Rattle.list_laws.specs.Members.{mem_select, select_mem, any_yes, any_no}
-use Rattle.stores.specs.Stores.{join, strictly_below}
-use Rattle.store_laws.specs.StoreLaws.{includes_within, within_includes, below_within, within_below}
-use Rattle.sheets.specs.Sheet.{Sheet}
-use Rattle.moves.specs.Moves.{constraints, is_minimal, makes_true, labels}
-use Rattle.move_laws.specs.LabelLaws.{constraints_all, constraints_only}
+use Rattle.comparison_laws.specs.TestLaws.{true_false, and_left, and_right, and_intro, not_passes}
+use Rattle.comparison_laws.specs.Lists.{any}
+use Rattle.comparison_laws.specs.Members.{mem_select, select_mem, any_yes, any_no}
+use Rattle.comparison_laws.specs.Stores.{join, strictly_below}
+use Rattle.comparison_laws.specs.StoreLaws.{includes_within, within_includes, below_within, within_below}
+use Rattle.comparison_laws.specs.Sheet.{Sheet}
+use Rattle.comparison_laws.specs.Moves.{constraints, is_minimal, makes_true, labels}
+use Rattle.comparison_laws.specs.LabelLaws.{constraints_all, constraints_only}
 use Rattle.paper.specs.Tables.{Minimal}
 
 module _ (s : Sheet) (d c : ℕ) where

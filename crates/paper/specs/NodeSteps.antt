@@ -4,12 +4,12 @@ use Rattle.std.proofs.Common.{sym, subst, inl, inr, ⊎_elim, arith}
 use mathlib.Core.List.Memᴰ
 use mathlib.Core.List.{List, [], ◌++◌, map, Memᴰ}
 use Prim.Native.Nat.{ℕ, zero, suc, ◌<◌}
-use Rattle.list_laws.specs.Members.{mem_map, map_mem}
-use Rattle.stores.specs.Stores.{join, least_store}
-use Rattle.sheets.specs.Sheet as sheet
-use Rattle.sheets.specs.Sheet.{Node, Sheet, node_of, opened}
-use Rattle.sheet_laws.specs.Ranks.{OfParts, Part, Ranked}
-use Rattle.moves.specs.Moves.{Step, labels, beside, steps_of, steps_within}
+use Rattle.comparison_laws.specs.Members.{mem_map, map_mem}
+use Rattle.comparison_laws.specs.Stores.{join, least_store}
+use Rattle.comparison_laws.specs.Sheet as sheet
+use Rattle.comparison_laws.specs.Sheet.{Node, Sheet, node_of, opened}
+use Rattle.comparison_laws.specs.Ranks.{OfParts, Part, Ranked}
+use Rattle.comparison_laws.specs.Moves.{Step, labels, beside, steps_of, steps_within}
 use Rattle.paper.specs.Terms.{Term, nil, tell, ask, parallel, choice, call, body_of, Opens, opens_nil, opens_call, opens_parallel}
 use Rattle.paper.specs.Tables.{Minimal, Transition, LR1, LR2, LR3_left, LR3_right, LR4_left, LR4_right, LR6}
 use Rattle.paper.specs.LabelBridge.{labels_minimal}

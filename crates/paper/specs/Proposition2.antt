@@ -4,25 +4,25 @@ use Rattle.std.specs.Prelude.{◌≡◌, ◌↔◌, true, false, ℕ, suc, ◌+�
 use Rattle.std.proofs.Common.{sym, subst, ⊎_elim, arith, ltb-true}
 use mathlib.Core.List.Memᴰ
 use mathlib.Core.List.{List, [], ◌∷◌, map, Memᴰ}
-use Rattle.list_laws.specs.TestLaws.{or_fails, Tested, tested, passes, fails}
-use Rattle.lists.specs.Lists.{any}
-use Rattle.list_laws.specs.Members.{any_yes}
-use Rattle.list_laws.specs.Counting.{distinct_length, ascends_distinct}
-use Rattle.sheets.specs.Sheet.{Configuration, Sheet}
-use Rattle.sheets.specs.WellFormed.{OfSheet, WellFormed}
-use Rattle.move_laws.specs.OrderLaws.{configuration_order}
-use Rattle.refinement.specs.Refinement.{Member}
-use Rattle.refinement_laws.specs.StableRounds.{member_of, stable_bisimilar}
-use Rattle.comparison.specs.SheetTransitions.{transitions}
+use Rattle.comparison_laws.specs.TestLaws.{or_fails, Tested, tested, passes, fails}
+use Rattle.comparison_laws.specs.Lists.{any}
+use Rattle.comparison_laws.specs.Members.{any_yes}
+use Rattle.comparison_laws.specs.Counting.{distinct_length, ascends_distinct}
+use Rattle.comparison_laws.specs.Sheet.{Configuration, Sheet}
+use Rattle.comparison_laws.specs.WellFormed.{OfSheet, WellFormed}
+use Rattle.comparison_laws.specs.OrderLaws.{configuration_order}
+use Rattle.comparison_laws.specs.Refinement.{Member}
+use Rattle.comparison_laws.specs.StableRounds.{member_of, stable_bisimilar}
+use Rattle.comparison_laws.specs.SheetTransitions.{transitions}
 use Rattle.comparison_laws.specs.SheetMoves.{lawful}
-use Rattle.comparison.specs.CallLimits.{Limits}
-use Rattle.comparison.specs.Set.{over, explored}
-use Rattle.comparison.specs.Classes.{share}
-use Rattle.comparison.specs.Rounds.{classes, rounds, result_of}
+use Rattle.comparison_laws.specs.CallLimits.{Limits}
+use Rattle.comparison_laws.specs.Set.{over, explored}
+use Rattle.comparison_laws.specs.Classes.{share}
+use Rattle.comparison_laws.specs.Rounds.{classes, rounds, result_of}
 use Rattle.comparison_laws.specs.SetLaws.{explored_seeds, explored_member, explored_ascends, explored_closed}
 use Rattle.comparison_laws.specs.ResultLaws.{result_is, rounds_of, rounds_at}
 use Rattle.comparison_laws.specs.Theorem.{whole, result_classes, result_round, member_some}
-use Rattle.comparison.specs.Promise.{ResultRound}
+use Rattle.comparison_laws.specs.Promise.{ResultRound}
 use Rattle.paper.specs.Terms.{Conf, Reads}
 use Rattle.paper.specs.Bisimulations.{SaturatedBarbedBisimilar}
 use Rattle.paper.specs.Bisimilarity.{saturated_agrees}

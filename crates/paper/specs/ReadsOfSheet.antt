@@ -3,11 +3,11 @@ use Rattle.std.specs.Prelude.{◌≡◌, ℕ}
 use Rattle.std.proofs.Common.{sym, subst, ⊎_elim}
 use mathlib.Core.List.Memᴰ
 use mathlib.Core.List.{List, [], ◌∷◌, Memᴰ}
-use Rattle.lists.specs.Lists.{sort_up}
-use Rattle.list_laws.specs.AscendingLaws.{sort_up_only, sort_up_not_falling}
-use Rattle.sheets.specs.Sheet.{Node, Configuration, Sheet, opened}
-use Rattle.sheets.specs.WellFormed.{Process, OfSheet, WellFormed}
-use Rattle.sheet_laws.specs.OpeningLaws.{opened_opens}
+use Rattle.comparison_laws.specs.Lists.{sort_up}
+use Rattle.comparison_laws.specs.AscendingLaws.{sort_up_only, sort_up_not_falling}
+use Rattle.comparison_laws.specs.Sheet.{Node, Configuration, Sheet, opened}
+use Rattle.comparison_laws.specs.WellFormed.{Process, OfSheet, WellFormed}
+use Rattle.comparison_laws.specs.OpeningLaws.{opened_opens}
 use Rattle.paper.specs.Terms.{Term, Conf, Opens, opens_nil, opens_call, opens_parallel, Reads}
 use Rattle.paper.specs.Bisimulations.{Con}
 

@@ -2,11 +2,11 @@
 -- read as.
 use Rattle.std.proofs.Common.{sym, subst}
 use Rattle.std.specs.Prelude.{ℕ}
-use Rattle.sheets.specs.Sheet.{Configuration, Sheet}
-use Rattle.sheets.specs.WellFormed.{WellFormed}
-use Rattle.moves.specs.Moves.{add}
-use Rattle.refinement.specs.Refinement.{Redundant}
-use Rattle.comparison.specs.SheetTransitions.{transitions}
+use Rattle.comparison_laws.specs.Sheet.{Configuration, Sheet}
+use Rattle.comparison_laws.specs.WellFormed.{WellFormed}
+use Rattle.comparison_laws.specs.Moves.{add}
+use Rattle.comparison_laws.specs.Refinement.{Redundant}
+use Rattle.comparison_laws.specs.SheetTransitions.{transitions}
 use Rattle.paper.specs.Terms.{Conf, Reads}
 use Rattle.paper.specs.Bisimulations.{Moves, with_added, RedundantIn}
 use Rattle.paper.specs.Agreement.{transition_constraint}

@@ -1,10 +1,10 @@
 -- Lists of threads that are the same up to order: sorted, they are equal.
 use Rattle.std.specs.Prelude.{◌≡◌, refl, Bool, true, false, cond, ℕ, eqb, leb}
-use Rattle.std.proofs.Common.{sym, ap, ◌∙◌, subst, arith, eq_eqb, ne_eqb, leb-false}
+use Rattle.std.proofs.Common.{sym, ap, ◌∙◌, subst, arith, eq-eqb, ne_eqb, leb-false}
 use mathlib.Core.List.{List, [], ◌∷◌, ◌++◌, append-nil, append_assoc, Memᴰ}
-use Rattle.lists.specs.Lists.{insert_up, sort_up}
-use Rattle.list_laws.specs.AscendingLaws.{sort_up_same, sort_up_not_falling}
-use Rattle.list_laws.specs.SortingLaws.{insert_up_comm, insert_all, insert_all_sorted}
+use Rattle.comparison_laws.specs.Lists.{insert_up, sort_up}
+use Rattle.comparison_laws.specs.AscendingLaws.{sort_up_same, sort_up_not_falling}
+use Rattle.comparison_laws.specs.SortingLaws.{insert_up_comm, insert_all, insert_all_sorted}
 
 -- the same threads, each as often, in any order
 pub record SameThreads (xs ys : List ℕ) : Type 0 where
@@ -61,11 +61,11 @@ removed a [] = []
 removed a (x ∷ xs) = let r = removed a xs in cond (eqb a x) xs (x ∷ r)
 
 remove_insert : (a : ℕ) (xs : List ℕ) → removed a (insert_up a xs) ≡ xs
-remove_insert a [] = rw (eq_eqb a a refl)
+remove_insert a [] = rw (eq-eqb a a refl)
 remove_insert a (x ∷ xs) = go (remove_insert a xs) (leb a x) refl
   where
     go : removed a (insert_up a xs) ≡ xs → (t : Bool) → leb a x ≡ t → removed a (cond t (a ∷ x ∷ xs) (x ∷ insert_up a xs)) ≡ x ∷ xs
-    go ih true e = rw (eq_eqb a a refl)
+    go ih true e = rw (eq-eqb a a refl)
     go ih false e =
         let n : a ≡ x → ⊥ = λ q. omega (arith, leb-false a x e) in
         rw (ne_eqb a x n) (ap (λ (l : List ℕ). x ∷ l) ih)

@@ -1,9 +1,9 @@
 -- Source 001, Tables 1 and 2 without R5 and LR5 (hiding), each rule a constructor with the paper's premises. The rules that
 -- the tables omit as symmetric stand here too.
 use Rattle.std.specs.Prelude.{◌≡◌, ℕ}
-use Rattle.stores.specs.FactSets.{Within}
-use Rattle.stores.specs.Stores.{Constraint, join, least_store}
-use Rattle.sheets.specs.Sheet.{Sheet}
+use Rattle.comparison_laws.specs.FactSets.{Within}
+use Rattle.comparison_laws.specs.Stores.{Constraint, join, least_store}
+use Rattle.comparison_laws.specs.Sheet.{Sheet}
 use Rattle.paper.specs.Terms.{Term, nil, tell, ask, parallel, choice, call, defined}
 
 module _ (s : Sheet) where

@@ -3,14 +3,14 @@
 use Rattle.std.specs.Prelude.{◌≡◌, ℕ}
 use Rattle.std.proofs.Common.{sym, ap, ◌∙◌, subst}
 use mathlib.Core.List.{List, map, Memᴰ}
-use Rattle.list_laws.specs.Members.{mem_map, map_mem, concat_map_mem}
-use Rattle.lists.specs.Lists.{concat_map}
-use Rattle.stores.specs.Stores.{Closed, join, least_store}
-use Rattle.store_laws.specs.StoreLaws.{join_closed}
-use Rattle.sheets.specs.Sheet.{Configuration, Sheet}
-use Rattle.sheets.specs.WellFormed.{OfSheet, WellFormed}
-use Rattle.moves.specs.Moves.{constraints}
-use Rattle.move_laws.specs.LabelLaws.{constraints_all, least_constraint}
+use Rattle.comparison_laws.specs.Members.{mem_map, map_mem, concat_map_mem}
+use Rattle.comparison_laws.specs.Lists.{concat_map}
+use Rattle.comparison_laws.specs.Stores.{Closed, join, least_store}
+use Rattle.comparison_laws.specs.StoreLaws.{join_closed}
+use Rattle.comparison_laws.specs.Sheet.{Configuration, Sheet}
+use Rattle.comparison_laws.specs.WellFormed.{OfSheet, WellFormed}
+use Rattle.comparison_laws.specs.Moves.{constraints}
+use Rattle.comparison_laws.specs.LabelLaws.{constraints_all, least_constraint}
 use Rattle.comparison_laws.specs.SheetMoves.{conclusions_fit, join_constraint}
 use Rattle.paper.specs.Terms.{Conf, Reads}
 use Rattle.paper.specs.Bisimulations.{Con, Reduces, Moves, with_added}

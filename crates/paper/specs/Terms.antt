@@ -1,9 +1,9 @@
 -- Source 001, section 2, "Syntax": processes without hiding, over the constraints of a sheet. A sheet's node is a procedure
 -- without parameters, named by its number, so that an ask may name any node.
 use Rattle.std.specs.Prelude.{◌≡◌, List, [], ◌∷◌, ◌++◌, ℕ}
-use Rattle.lists.specs.Lists.{sort_up}
-use Rattle.sheets.specs.Sheet as sheet
-use Rattle.sheets.specs.Sheet.{Node, Configuration, Sheet, node_of, opened}
+use Rattle.comparison_laws.specs.Lists.{sort_up}
+use Rattle.comparison_laws.specs.Sheet as sheet
+use Rattle.comparison_laws.specs.Sheet.{Node, Configuration, Sheet, node_of, opened}
 
 -- 0, tell, ask, parallel composition, choice, and the call of a procedure.
 pub data Term : Type 0 where

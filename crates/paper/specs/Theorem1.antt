@@ -3,11 +3,11 @@
 -- configurations the two are the same where every question is decided: a premise of `theorem_1_decided`, no axiom.
 use Rattle.std.specs.Prelude.{◌↔◌, ℕ}
 use mathlib.Core.List.{List, Memᴰ}
-use Rattle.sheets.specs.Sheet.{Configuration, Sheet}
-use Rattle.sheets.specs.WellFormed.{OfSheet, WellFormed}
-use Rattle.refinement.specs.Refinement.{Member, Bisimilar}
-use Rattle.refinement_laws.specs.StableRounds.{Stable, member_of, stable_bisimilar}
-use Rattle.comparison.specs.SheetTransitions.{transitions}
+use Rattle.comparison_laws.specs.Sheet.{Configuration, Sheet}
+use Rattle.comparison_laws.specs.WellFormed.{OfSheet, WellFormed}
+use Rattle.comparison_laws.specs.Refinement.{Member, Bisimilar}
+use Rattle.comparison_laws.specs.StableRounds.{Stable, member_of, stable_bisimilar}
+use Rattle.comparison_laws.specs.SheetTransitions.{transitions}
 use Rattle.comparison_laws.specs.SheetMoves.{lawful}
 use Rattle.paper.specs.Terms.{Conf, Reads}
 use Rattle.paper.specs.Bisimulations.{RedundantIn, SaturatedBarbedBisimulation, IrredundantBisimulation, SaturatedBarbedBisimilar, IrredundantBisimilar}

@@ -3,18 +3,18 @@
 use Rattle.std.specs.Prelude.{◌≡◌, ℕ}
 use Rattle.std.proofs.Common.{sym, ap, ◌∙◌, subst}
 use mathlib.Core.List.{List, map, Memᴰ}
-use Rattle.list_laws.specs.Members.{map_mem, concat_map_mem}
-use Rattle.lists.specs.Lists.{concat_map}
-use Rattle.stores.specs.Stores.{least_store}
-use Rattle.sheets.specs.Sheet.{Configuration, Sheet}
-use Rattle.sheets.specs.WellFormed.{OfSheet, WellFormed}
-use Rattle.moves.specs.Moves.{Moves, add, constraints}
-use Rattle.move_laws.specs.LabelLaws.{constraints_all}
-use Rattle.refinement.specs.Refinement.{Member, seed, target, added}
-use Rattle.refinement_laws.specs.LawfulMoves.{Lawful}
-use Rattle.comparison.specs.SheetTransitions.{transitions}
+use Rattle.comparison_laws.specs.Members.{map_mem, concat_map_mem}
+use Rattle.comparison_laws.specs.Lists.{concat_map}
+use Rattle.comparison_laws.specs.Stores.{least_store}
+use Rattle.comparison_laws.specs.Sheet.{Configuration, Sheet}
+use Rattle.comparison_laws.specs.WellFormed.{OfSheet, WellFormed}
+use Rattle.comparison_laws.specs.Moves.{Moves, add, constraints}
+use Rattle.comparison_laws.specs.LabelLaws.{constraints_all}
+use Rattle.comparison_laws.specs.Refinement.{Member, seed, target, added}
+use Rattle.comparison_laws.specs.LawfulMoves.{Lawful}
+use Rattle.comparison_laws.specs.SheetTransitions.{transitions}
 use Rattle.comparison_laws.specs.SheetMoves.{lawful}
-use Rattle.comparison.specs.Set.{explored}
+use Rattle.comparison_laws.specs.Set.{explored}
 use Rattle.paper.specs.Bisimulations.{Con}
 use Rattle.paper.specs.Proposition2.{Ends, limits_of, proposition_2_finite}
 

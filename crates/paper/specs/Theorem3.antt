@@ -2,11 +2,11 @@
 -- its own target with b added.
 use Rattle.std.specs.Prelude.{◌≡◌, refl, ◌↔◌, ℕ}
 use Rattle.std.proofs.Common.{sym, ap, ◌∙◌, subst}
-use Rattle.stores.specs.FactSets.{Within}
-use Rattle.stores.specs.Stores.{Closed, join}
-use Rattle.store_laws.specs.StoreLaws.{join_left, join_assoc, within_join}
-use Rattle.sheets.specs.Sheet.{Sheet}
-use Rattle.sheets.specs.WellFormed.{WellFormed}
+use Rattle.comparison_laws.specs.FactSets.{Within}
+use Rattle.comparison_laws.specs.Stores.{Closed, join}
+use Rattle.comparison_laws.specs.StoreLaws.{join_left, join_assoc, within_join}
+use Rattle.comparison_laws.specs.Sheet.{Sheet}
+use Rattle.comparison_laws.specs.WellFormed.{WellFormed}
 use Rattle.paper.specs.Terms.{Conf}
 use Rattle.paper.specs.Bisimulations.{Con, Moves, with_added, Derives}
 use Rattle.paper.specs.Agreement.{join_inside, transition_constraint}

@@ -5,15 +5,15 @@ use mathlib.Core.List.Memᴰ
 use mathlib.Core.List.{List, [], ◌∷◌, ◌++◌, map, append-nil, append_assoc, Memᴰ}
 use Prim.Native.Nat.{ℕ, zero, suc, ◌<◌}
 use Rattle.std.proofs.Math.ListN.{get_or-eq_default}
-use Rattle.list_laws.specs.Members.{mem_map, map_mem}
-use Rattle.sheets.specs.Sheet as sheet
-use Rattle.sheets.specs.Sheet.{Node, Sheet, node_of, opened, opening_of, open_within}
-use Rattle.sheets.specs.WellFormed.{WellFormed}
-use Rattle.sheet_laws.specs.Ranks.{OfParts, Part, Ranked, rank_of}
-use Rattle.sheet_laws.specs.ReadingLaws.{well_formed_ranked}
-use Rattle.moves.specs.Orders.{Move}
-use Rattle.moves.specs.Moves.{Step, steps, move_of, moves_from}
-use Rattle.move_laws.specs.NestingLaws.{opened_is}
+use Rattle.comparison_laws.specs.Members.{mem_map, map_mem}
+use Rattle.comparison_laws.specs.Sheet as sheet
+use Rattle.comparison_laws.specs.Sheet.{Node, Sheet, node_of, opened, opening_of, open_within}
+use Rattle.comparison_laws.specs.WellFormed.{WellFormed}
+use Rattle.comparison_laws.specs.Ranks.{OfParts, Part, Ranked, rank_of}
+use Rattle.comparison_laws.specs.ReadingLaws.{well_formed_ranked}
+use Rattle.comparison_laws.specs.Orders.{Move}
+use Rattle.comparison_laws.specs.Moves.{Step, steps, move_of, moves_from}
+use Rattle.comparison_laws.specs.NestingLaws.{opened_is}
 use Rattle.paper.specs.Terms.{Term, parallel, call, body_of, Opens, opens_nil, opens_call, opens_parallel}
 use Rattle.paper.specs.Tables.{Transition, LR3_left, LR3_right}
 use Rattle.paper.specs.SameThreads.{SameThreads, same_refl, same_sym, same_trans, same_equal, same_swap, same_left, same_right, same_middle, same_assoc, same_rest}

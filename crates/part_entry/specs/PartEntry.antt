@@ -1,7 +1,7 @@
 -- What entering one part of a both among the nodes to visit gives, with its mark and the threads beside it.
 use Rattle.std.specs.Prelude.{◌≡◌, ◌⊎◌, List, ℕ, ◌≤◌, ◌<◌, length}
-use Rattle.list_laws.specs.SortingLaws.{insert_all}
-use Rattle.node_moves.specs.NodeMoves.{NodeBeside}
+use Rattle.sheet_types.specs.SortingLaws.{insert_all}
+use Rattle.threads_beside.specs.NodeMoves.{NodeBeside}
 use Rattle.nodes_to_visit.specs.NodesToVisit.{Entered}
 use Rattle.walk_state.specs.declared.Walk.{Walk}
 use Rattle.walk_state.specs.declared.Walked.{Walked}

@@ -1,10 +1,10 @@
 -- Laws of one part entered: too many threads beside it, or not.
 use Rattle.std.specs.Prelude.{◌≡◌, refl, Bool, true, false, not, List, ◌++◌, ℕ, ◌+◌, ◌≤◌, length}
 use Rattle.std.proofs.Common.{sym, ap, ◌∙◌, subst, arith, leb-true, leb-false}
-use Rattle.lists.specs.Lists.{NotFalling, sort_up}
-use Rattle.list_laws.specs.SortingLaws.{insert_all}
-use Rattle.node_moves.specs.NodeMoves.{NodeBeside}
-use Rattle.node_moves.specs.ThreadLaws.{insert_all_sorts, sort_append_length}
+use Rattle.nodes_to_visit.specs.Lists.{NotFalling, sort_up}
+use Rattle.sheet_types.specs.SortingLaws.{insert_all}
+use Rattle.threads_beside.specs.NodeMoves.{NodeBeside}
+use Rattle.threads_beside.specs.ThreadLaws.{insert_all_sorts, sort_append_length}
 use Rattle.threads_beside.specs.declared.NodeBeside as held
 use Rattle.threads_beside.specs.declared.Beside.{Beside}
 use Rattle.threads_beside.specs.ThreadsBeside.{node_beside, PutBeside}

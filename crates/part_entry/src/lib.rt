@@ -1,14 +1,16 @@
 // One part of a both among the nodes to visit, with the threads of the other part beside it.
+#![tactic(auto)]
+
 ghost use Rattle.std.specs.Prelude.{◌≡◌, ℕ, ◌≤◌, ◌<◌, length, get_or};
-ghost use Rattle.lists.specs.Lists.{NotFalling};
-ghost use Rattle.sheets.specs.SheetLimits.{max_nodes};
-ghost use Rattle.sheet_laws.specs.Ranks.{rank_of};
+ghost use Rattle.nodes_to_visit.specs.Lists.{NotFalling};
+ghost use Rattle.sheet_types.specs.SheetLimits.{max_nodes};
+ghost use Rattle.threads_beside.specs.Ranks.{rank_of};
 ghost use Rattle.sheet_types.specs.NodeTable.{opened_of, movables_of};
 ghost use Rattle.sheet_types.specs.HeldSheet.{opened_in};
 ghost use Rattle.threads_beside.specs.ThreadsBeside.{node_beside};
 ghost use Rattle.nodes_to_visit.specs.NodesToVisit.{PendingPacked};
 ghost use Rattle.part_entry.specs.PartEntry.{beside_of, PartAs};
-ghost use Rattle.work_layout.specs.WorkLayout.{pending_end};
+ghost use Rattle.nodes_to_visit.specs.WorkLayout.{pending_end};
 
 use sheet_types::TABLE_END;
 use threads_beside::NodeBeside;

@@ -4,7 +4,7 @@ use Rattle.std.proofs.Common.{sym, ap, ◌∙◌, pow-suc, arith, ltb-true, ltb-
 use Rattle.std.proofs.lemmas.Nat.{shl-shr}
 use Rattle.std.specs.Int.Bits.{bit_and, and_step, and_self}
 use Rattle.std.specs.Int.Count.{count_trailing_zeros, under}
-use Rattle.stores.specs.FactSets.{digit}
+use Rattle.store_laws.specs.FactSets.{digit}
 use Rattle.store_laws.specs.FactSetLaws.{digit_zero, digit_half}
 
 pub digit_le : (n i : ℕ) → digit n i ≤ 1

@@ -1,3 +1,7 @@
+pub use Rattle.store_laws.specs.Lists
+pub use Rattle.store_laws.specs.Members
+pub use Rattle.store_laws.specs.StoreLaws
+pub use Rattle.store_laws.specs.Stores
 pub mod PlaceSets
 pub mod DigitLaws
 pub mod PlaceLaws

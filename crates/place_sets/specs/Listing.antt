@@ -1,8 +1,8 @@
 -- Laws of a set's places that are listed word by word, and those of a word from its lowest digit up.
 use Rattle.std.specs.Prelude.{◌≡◌, refl, ◌⊎◌, Bool, true, false, List, ℕ, zero, suc, ◌+◌, ◌*◌, ◌/◌, ◌%◌, ◌≤◌, ◌<◌, min, eqb, ltb, length, get_or, set}
-use Rattle.std.proofs.Common.{sym, ap, ◌∙◌, inl, inr, ⊎_elim, arith, get_or-set_same, get_or_set_other, eqb-true, ltb-true, ltb-false}
+use Rattle.std.proofs.Common.{sym, ap, ◌∙◌, inl, inr, ⊎_elim, arith, get_or-set_same, get_or-set_other, eqb-true, ltb-true, ltb-false}
 use Rattle.std.proofs.lemmas.Bool.{eqb-false}
-use Rattle.stores.specs.FactSets.{digit}
+use Rattle.store_laws.specs.FactSets.{digit}
 use Rattle.store_laws.specs.FactSetLaws.{zero_digit}
 use Rattle.place_sets.specs.DigitLaws.{Lowest, lowest_later}
 use Rattle.place_sets.specs.PlaceSets.{InSet, Listed}
@@ -94,7 +94,7 @@ module _ {ws : List ℕ} {n k rest : ℕ} {old list : List ℕ} {a t m : ℕ} (p
             ⊎_elim (λ (e : i ≡ 64 * k + t). inr (a, omega arith, new ∙ sym e)) (λ (d : digit m (i % 64) ≡ 1). inl (q.0, d))
             (digit_of i q.0 h q.1))
             (λ (q : (j : ℕ) × (j < a) × (get_or list j 0 ≡ i)). inr (q.0, omega (arith, q.1), same q.0 q.1 ∙ q.2)) (p.all i l h s);
-        kept = λ j l. get_or_set_other list a j (64 * k + t) 0 (λ (e : j ≡ a). omega arith) ∙ p.kept j (omega arith);
+        kept = λ j l. get_or-set_other list a j (64 * k + t) 0 (λ (e : j ≡ a). omega arith) ∙ p.kept j (omega arith);
       }
     where
       put : List ℕ
@@ -104,7 +104,7 @@ module _ {ws : List ℕ} {n k rest : ℕ} {old list : List ℕ} {a t m : ℕ} (p
       new = get_or-set_same list a (64 * k + t) 0 room
 
       same : (j : ℕ) → j < a → get_or put j 0 ≡ get_or list j 0
-      same j l = get_or_set_other list a j (64 * k + t) 0 (λ (e : j ≡ a). omega arith)
+      same j l = get_or-set_other list a j (64 * k + t) 0 (λ (e : j ≡ a). omega arith)
 
       kept : (j : ℕ) → j < a + 1 → eqb j a ≡ false → j < a
       kept j l e = let other : j ≡ a → ⊥ = eqb-false j a e in omega arith

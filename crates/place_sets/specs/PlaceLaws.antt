@@ -1,10 +1,10 @@
 -- Laws of sets of places: a place put in, and sets united.
 use Rattle.std.specs.Prelude.{◌≡◌, refl, Bool, true, false, List, ℕ, ◌+◌, ◌*◌, ◌/◌, ◌%◌, ◌^◌, ◌<◌, eqb, ltb, length, get_or, set}
-use Rattle.std.proofs.Common.{sym, ap, ◌∙◌, arith, get_or-set_same, get_or_set_other, eqb-true, ltb-true, ltb-false}
+use Rattle.std.proofs.Common.{sym, ap, ◌∙◌, arith, get_or-set_same, get_or-set_other, eqb-true, ltb-true, ltb-false}
 use Rattle.std.proofs.Math.Seq.{set_out}
 use Rattle.std.specs.Int.Bits.{bit_or}
 use Rattle.std.proofs.lemmas.Bool.{eqb-false}
-use Rattle.stores.specs.FactSets.{digit}
+use Rattle.store_laws.specs.FactSets.{digit}
 use Rattle.store_laws.specs.FactSetLaws.{digit_or}
 use Rattle.place_sets.specs.DigitLaws.{digit_le, digit_power}
 use Rattle.place_sets.specs.PlaceSets.{InSet, with_place, United}
@@ -37,7 +37,7 @@ place_more ws at i from j h = go (eqb l k) refl (ltb k (length ws)) refl
     word = bit_or (get_or ws k 0) (2 ^ (i % 64))
 
     go : (b : Bool) → eqb l k ≡ b → (c : Bool) → ltb k (length ws) ≡ c → digit (get_or (set ws k word) l 0) (j % 64) ≡ 1
-    go false e c f = ap (λ (n : ℕ). digit n (j % 64)) (get_or_set_other ws k l word 0 (eqb-false l k e)) ∙ h
+    go false e c f = ap (λ (n : ℕ). digit n (j % 64)) (get_or-set_other ws k l word 0 (eqb-false l k e)) ∙ h
     go true e false f = ap (λ (s : List ℕ). digit (get_or s l 0) (j % 64)) (set_out ws k word (ltb-false k (length ws) f)) ∙ h
     go true e true f =
         let same : l ≡ k = eqb-true l k e in

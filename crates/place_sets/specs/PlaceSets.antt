@@ -1,7 +1,7 @@
 -- Sets of places as digits of words: place i is in the set that begins at word `at` where digit i % 64 of word at + i / 64 is 1.
 use Rattle.std.specs.Prelude.{◌≡◌, List, ℕ, ◌+◌, ◌/◌, ◌%◌, ◌^◌, ◌≤◌, ◌<◌, length, get_or, set}
 use Rattle.std.specs.Int.Bits.{bit_or}
-use Rattle.stores.specs.FactSets.{digit}
+use Rattle.store_laws.specs.FactSets.{digit}
 
 abbrev pub place_digit : List ℕ → ℕ → ℕ → ℕ
 place_digit ws at i = digit (get_or ws (at + i / 64) 0) (i % 64)

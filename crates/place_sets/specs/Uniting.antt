@@ -1,6 +1,6 @@
 -- Laws of a union that is made word by word.
 use Rattle.std.specs.Prelude.{◌≡◌, refl, Bool, true, false, List, ℕ, ◌+◌, ◌<◌, eqb, length, get_or, set}
-use Rattle.std.proofs.Common.{sym, ap, ◌∙◌, le_refl, arith, length-set, get_or-set_same, get_or_set_other, eqb-true}
+use Rattle.std.proofs.Common.{sym, ap, ◌∙◌, le_refl, arith, length-set, get_or-set_same, get_or-set_other, eqb-true}
 use Rattle.std.specs.Int.Bits.{bit_or}
 use Rattle.std.proofs.lemmas.Bool.{eqb-false}
 use Rattle.place_sets.specs.PlaceSets.{United}
@@ -16,7 +16,7 @@ united_next {ws} {at} {k} {u} {v} r h =
     record {
       long = length-set v k word ∙ r.long;
       both = λ j l. go j l (eqb j k) refl;
-      rest = λ j l. get_or_set_other v k j word 0 (λ (e : j ≡ k). omega arith) ∙ r.rest j (omega arith);
+      rest = λ j l. get_or-set_other v k j word 0 (λ (e : j ≡ k). omega arith) ∙ r.rest j (omega arith);
     }
   where
     word : ℕ
@@ -29,4 +29,4 @@ united_next {ws} {at} {k} {u} {v} r h =
         ∙ ap (λ (x : ℕ). bit_or x (get_or ws (at + k) 0)) (r.rest k (le_refl k)) ∙ ap (λ (i : ℕ). bit_or (get_or u i 0) (get_or ws (at + i) 0)) (sym same)
     go j l false e =
         let other : j ≡ k → ⊥ = eqb-false j k e in
-        get_or_set_other v k j word 0 other ∙ r.both j (omega arith)
+        get_or-set_other v k j word 0 other ∙ r.both j (omega arith)

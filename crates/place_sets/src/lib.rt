@@ -1,4 +1,6 @@
 // Sets of places, as digits of words of 64: places put in, sets united, the places of a set listed.
+#![tactic(auto)]
+
 ghost use Rattle.std.specs.Prelude.{◌≡◌, ◌+◌, ◌*◌, ◌/◌, ◌≤◌, ◌<◌, min, length, eqb};
 ghost use Rattle.place_sets.specs.PlaceSets.{place_digit, with_place, United, Listed};
 

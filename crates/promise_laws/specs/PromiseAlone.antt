@@ -1,9 +1,9 @@
 -- The promise fixes a call: on the same input, and with the same slices, what two calls return and leave is the same.
 use Rattle.std.specs.Prelude.{◌≡◌, List, ℕ, length}
 use Rattle.std.proofs.Common.{sym, ◌∙◌}
-use Rattle.comparison.specs.Outcome.{Outcome}
-use Rattle.comparison.specs.Promise.{PromiseBy}
-use Rattle.comparison_laws.specs.FrameTheorem.{Decides, gives_report, gives_refusal}
+use Rattle.call_frame.specs.Outcome.{Outcome}
+use Rattle.call_frame.specs.Promise.{PromiseBy}
+use Rattle.call_frame.specs.FrameTheorem.{Decides, gives_report, gives_refusal}
 
 module _ {A X R : Type 0} {refuse : ℕ → ℕ → R} {Refuses Refuses2 : ℕ → ℕ → ℕ → ℕ → Type 0} {give : X → R} {of : A → X}
     {Gives Gives2 : ℕ → ℕ → A → Type 0} {Made Made2 : List ℕ → List ℕ → List ℕ → List ℕ → X → Type 1}

@@ -1,8 +1,8 @@
 -- A call whose contract says what it returns and leaves of its outcome keeps its promise.
 use Rattle.std.specs.Prelude.{◌≡◌, refl, ◌↔◌, List, ◌++◌, ℕ, length, drop}
 use Rattle.std.proofs.Common.{sym, ap, ap₂, ◌∙◌}
-use Rattle.comparison.specs.Outcome.{Outcome, reported, refusal, cleared, work_refused}
-use Rattle.comparison.specs.Promise.{RefusalBy, PromiseBy}
+use Rattle.call_frame.specs.Outcome.{Outcome, reported, refusal, cleared, work_refused}
+use Rattle.call_frame.specs.Promise.{RefusalBy, PromiseBy}
 use Rattle.call_frame.specs.Answered.{Answered}
 
 -- The two variants of what a call returns: neither is the other, and each tells its arguments apart.

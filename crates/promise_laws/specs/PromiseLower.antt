@@ -2,14 +2,14 @@
 -- that are nowhere above those of the second.
 use Rattle.std.specs.Prelude.{◌≡◌, ◌⊎◌, List, ℕ, length}
 use Rattle.std.proofs.Common.{inl, inr}
-use Rattle.sheets.specs.Refusals.{large_set}
-use Rattle.sheets.specs.Sheet.{Sheet}
-use Rattle.sheets.specs.SheetBytes.{ChoiceIs, ChoiceRefused}
-use Rattle.comparison.specs.CallLimits.{Limits, NoGreater}
-use Rattle.comparison.specs.Outcome.{Outcome}
-use Rattle.comparison.specs.Promise.{PassesLimit, RefusesBy, large_set_lem, GivesBy, PromiseBy, starts_of}
-use Rattle.comparison_laws.specs.FrameTheorem.{Decides}
-use Rattle.comparison_laws.specs.LimitLaws.{BesideBy, answer_of_both, refusal_of_both, lower_large, refuses_lower, beside, one_choice}
+use Rattle.call_frame.specs.Refusals.{large_set}
+use Rattle.call_frame.specs.Sheet.{Sheet}
+use Rattle.call_frame.specs.SheetBytes.{ChoiceIs, ChoiceRefused}
+use Rattle.call_frame.specs.CallLimits.{Limits, NoGreater}
+use Rattle.call_frame.specs.Outcome.{Outcome}
+use Rattle.call_frame.specs.Promise.{PassesLimit, RefusesBy, large_set_lem, GivesBy, PromiseBy, starts_of}
+use Rattle.call_frame.specs.FrameTheorem.{Decides}
+use Rattle.call_frame.specs.LimitLaws.{BesideBy, answer_of_both, refusal_of_both, lower_large, refuses_lower, beside, one_choice}
 use Rattle.call_promise.specs.TwoCalls.{OneCall, LargeBy, LowerBy}
 use Rattle.promise_laws.specs.PromiseAlone.{both_refuse, both_give}
 

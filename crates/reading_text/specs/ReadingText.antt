@@ -2,11 +2,11 @@
 -- REFUSED with number and place.
 use Rattle.std.specs.Prelude.{◌≡◌, List, [], ◌∷◌, ℕ, length, get_or}
 use Rattle.std.proofs.Common.{ap, ◌∙◌}
-use Rattle.list_laws.specs.Tabulate.{tabulate_length}
-use Rattle.printed_lines.specs.Lines.{line, read_word, refused_word}
-use Rattle.sheets.specs.Sheet.{Sheet}
-use Rattle.sheet_reading.specs.Reading.{Reading, got, refused}
-use Rattle.set_closure.specs.RuleTable.{rule_in}
+use Rattle.text.specs.Tabulate.{tabulate_length}
+use Rattle.text.specs.Lines.{line, read_word, refused_word}
+use Rattle.sheet_types.specs.Sheet.{Sheet}
+use Rattle.sheet_types.specs.Reading.{Reading, got, refused}
+use Rattle.sheet_types.specs.RuleTable.{rule_in}
 use Rattle.sheet_types.specs.HeldSheet.{node_in, configuration, no_configuration, sheet_of}
 use Rattle.sheet_types.specs.NodeTable.{nodes_of}
 use Rattle.sheet_types.specs.declared.Sheet as held

@@ -1,6 +1,8 @@
 // The line that is printed of a sheet: its counts, or its refusal.
+#![tactic(auto)]
+
 ghost use Rattle.std.specs.Prelude.{[], ◌∷◌};
-ghost use Rattle.sheet_reading.specs.Reading.{read_choice};
+ghost use Rattle.sheet_types.specs.Reading.{read_choice};
 ghost use Rattle.text.specs.Slices.{Written};
 ghost use Rattle.reading_text.specs.ReadingText.{reading_line};
 

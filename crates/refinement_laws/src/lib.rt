@@ -1,1 +1,2 @@
 // Rounds, levels and saturated barbed bisimulations over any labelled moves: theorems. No functions.
+#![tactic(auto)]

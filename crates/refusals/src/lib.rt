@@ -1,4 +1,5 @@
 // The numbers of refusals, each named once; sheets/specs/Refusals has the same for the definitions. No functions.
+#![tactic(auto)]
 
 // By the sheet: a field cut off by the end; too many facts; a byte that no name has; too many rules.
 pub const CUT_OFF: u8 = 1;

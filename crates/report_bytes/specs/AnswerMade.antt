@@ -2,12 +2,12 @@
 -- otherwise the answer's bytes in front of it.
 use Rattle.std.specs.Prelude.{◌≡◌, List, ◌++◌, ℕ, ◌≤◌, ◌<◌, length, drop}
 use Rattle.std.proofs.Common.{sym, ap, ◌∙◌, subst}
-use Rattle.list_laws.specs.Frames.{SameOutside}
-use Rattle.sheets.specs.Refusals.{short_answer}
-use Rattle.sheets.specs.Sheet.{Configuration, Sheet}
+use Rattle.work_layout.specs.Frames.{SameOutside}
+use Rattle.comparison_laws.specs.Refusals.{short_answer}
+use Rattle.comparison_laws.specs.Sheet.{Configuration, Sheet}
 use Rattle.work_layout.specs.WorkLayout.{work_end}
-use Rattle.comparison.specs.Outcome.{Outcome, reported, refusal, written_after}
-use Rattle.comparison.specs.Frame.{with_room}
+use Rattle.comparison_laws.specs.Outcome.{Outcome, reported, refusal, written_after}
+use Rattle.comparison_laws.specs.Frame.{with_room}
 use Rattle.comparison_laws.specs.RoomLaws.{room_short, room_given}
 
 -- `make` makes the answer of a sheet and its set, `written` are its bytes, and `Held` says which sets stand in v

@@ -1,14 +1,14 @@
 -- Laws of bytes that are stored one part after another.
 use Rattle.std.specs.Prelude.{◌≡◌, refl, List, [], ◌++◌, ℕ, zero, suc, ◌+◌, ◌*◌, ◌-◌, ◌≤◌, ◌<◌, length, take, drop}
-use Rattle.std.proofs.Common.{sym, ap, ap₂, ◌∙◌, subst, append-nil, append_assoc, zero-add, arith, length-append, length-drop, drop_of_length-le, take_all, take_at, drop_at, drop_drop}
+use Rattle.std.proofs.Common.{sym, ap, ap₂, ◌∙◌, subst, append-nil, append_assoc, zero-add, arith, length-append, length-drop, drop_of_length-le, take_all, take_at, drop_at, drop-drop}
 use Rattle.std.proofs.lemmas.List.Edits.{sets-eq}
 use borrow.Rule.Slice.PartMut.{put_mid, mid_of}
-use Rattle.list_laws.specs.Tabulate.{tabulate, tabulate_none, tabulate_next}
-use Rattle.lists.specs.Lists.{concat_map}
-use Rattle.list_laws.specs.SortingLaws.{concat_map_next}
-use Rattle.text.specs.Slices.{Stored}
-use Rattle.text.specs.StoredText.{stored_then, stored_length}
-use Rattle.packing.specs.PackingLaws.{packed_count}
+use Rattle.work_layout.specs.Tabulate.{tabulate, tabulate_none, tabulate_next}
+use Rattle.comparison_laws.specs.Lists.{concat_map}
+use Rattle.comparison_laws.specs.SortingLaws.{concat_map_next}
+use Rattle.report_records.specs.Slices.{Stored}
+use Rattle.report_records.specs.StoredText.{stored_then, stored_length}
+use Rattle.report_records.specs.PackingLaws.{packed_count}
 use Rattle.report_records.specs.RecordLayout.{PackedAt, member_bytes_at, step_bytes_at}
 use Rattle.report_records.specs.RecordsStored.{member_length_lem}
 use Rattle.report_bytes.specs.ReportLayout.{members_part, trail_part, held_bytes}
@@ -103,7 +103,7 @@ lent_after out members mid trail last at s h e =
     let front : take at mid ≡ members = ap (take at) m ∙ take_at members rest at p in
     let behind : mid_of at (length mid - at) mid ≡ rest = tail_mid at mid ∙ ap (drop at) m ∙ drop_at members rest at p in
     let far : drop (length trail) rest ≡ drop (length (members ++ trail)) out =
-    drop_drop (length trail) (length members) out ∙ ap (λ (k : ℕ). drop k out) (sym (length-append members trail)) in
+    drop-drop (length trail) (length members) out ∙ ap (λ (k : ℕ). drop k out) (sym (length-append members trail)) in
     tail_put at mid last
     ∙ ap₂ (λ (a b : List ℕ). a ++ b) front (e ∙ ap (λ (l : List ℕ). trail ++ l) (ap (drop (length trail)) behind ∙ far))
     ∙ sym (append_assoc members trail (drop (length (members ++ trail)) out))

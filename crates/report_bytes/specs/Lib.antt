@@ -1,3 +1,11 @@
+pub use Rattle.comparison_laws.specs.CallTheorem
+pub use Rattle.comparison_laws.specs.Outcome
+pub use Rattle.report_records.specs.RecordLayout
+pub use Rattle.comparison_laws.specs.ResultLaws
+pub use Rattle.comparison_laws.specs.RoundLaws
+pub use Rattle.comparison_laws.specs.SetLaws
+pub use Rattle.work_layout.specs.SetLayout
+pub use Rattle.comparison_laws.specs.TrailLaws
 pub mod ReportLayout
 pub mod ReportInSlice
 pub mod ReportInSliceLaws

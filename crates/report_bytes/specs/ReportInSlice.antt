@@ -1,13 +1,13 @@
 -- What the writer of a report asks of the work slice, and what agrees with a report of document 01.
 use Rattle.std.specs.Prelude.{◌≡◌, List, map, ℕ, ◌≤◌, ◌<◌, length, get_or}
-use Rattle.lists.specs.Lists.{Ascends}
-use Rattle.list_laws.specs.Tabulate.{tabulate}
-use Rattle.sheets.specs.Sheet.{Configuration}
-use Rattle.moves.specs.Orders.{configuration_before}
+use Rattle.comparison_laws.specs.Lists.{Ascends}
+use Rattle.work_layout.specs.Tabulate.{tabulate}
+use Rattle.comparison_laws.specs.Sheet.{Configuration}
+use Rattle.comparison_laws.specs.Orders.{configuration_before}
 use Rattle.work_layout.specs.SetLayout.{set_in}
-use Rattle.comparison.specs.Classes.{place_of}
-use Rattle.comparison.specs.Trail.{TrailStep}
-use Rattle.comparison.specs.Report.{Report, side_byte, reply_number}
+use Rattle.comparison_laws.specs.Classes.{place_of}
+use Rattle.comparison_laws.specs.Trail.{TrailStep}
+use Rattle.work_layout.specs.Report.{Report, side_byte, reply_number}
 use Rattle.report_records.specs.RecordLayout.{PackedAt, side_in, label_in, target_in, reply_in}
 use Rattle.work_layout.specs.WorkLayout.{work_end, member_room}
 use Rattle.work_layout.specs.ClassLayout.{class_in}

@@ -5,19 +5,19 @@ use Rattle.std.proofs.Common.{ap, ◌∙◌, subst, arith}
 use mathlib.Core.List.{List, [], ◌∷◌, ◌++◌, map, append_assoc}
 use Prim.Native.Nat.{ℕ, zero, suc, ◌+◌, ◌<◌}
 use Rattle.std.proofs.lemmas.List.{length-map}
-use Rattle.lists.specs.Lists.{Ascends, concat_map}
-use Rattle.list_laws.specs.Tabulate.{tabulate, tabulate_length, tabulate_at}
-use Rattle.list_laws.specs.TabulateLaws.{mem_tabulate, ascends_apart}
-use Rattle.list_laws.specs.SortingLaws.{concat_map_next}
-use Rattle.sheets.specs.Sheet.{Configuration, Sheet}
-use Rattle.move_laws.specs.OrderLaws.{configuration_order}
-use Rattle.moves.specs.Orders.{configuration_before}
+use Rattle.comparison_laws.specs.Lists.{Ascends, concat_map}
+use Rattle.work_layout.specs.Tabulate.{tabulate, tabulate_length, tabulate_at}
+use Rattle.work_layout.specs.TabulateLaws.{mem_tabulate, ascends_apart}
+use Rattle.comparison_laws.specs.SortingLaws.{concat_map_next}
+use Rattle.comparison_laws.specs.Sheet.{Configuration, Sheet}
+use Rattle.comparison_laws.specs.OrderLaws.{configuration_order}
+use Rattle.comparison_laws.specs.Orders.{configuration_before}
 use Rattle.work_layout.specs.SetLayout.{member_at, SetHeld}
-use Rattle.comparison.specs.Classes.{place_of, class_of}
+use Rattle.comparison_laws.specs.Classes.{place_of, class_of}
 use Rattle.comparison_laws.specs.ClassLaws.{place_of_lt, place_of_at}
-use Rattle.comparison.specs.Trail.{TrailStep}
-use Rattle.sheets.specs.SheetBytes.{word_bytes}
-use Rattle.comparison.specs.Report.{Report, member_bytes, members_bytes, step_bytes, report_bytes}
+use Rattle.comparison_laws.specs.Trail.{TrailStep}
+use Rattle.comparison_laws.specs.SheetBytes.{word_bytes}
+use Rattle.work_layout.specs.Report.{Report, member_bytes, members_bytes, step_bytes, report_bytes}
 use Rattle.report_records.specs.RecordLayout.{member_bytes_at, step_bytes_at}
 use Rattle.report_bytes.specs.ReportLayout.{members_part, held_bytes}
 use Rattle.report_bytes.specs.ReportInSlice.{StepNumbers, step_in, step_numbers, MembersHeld, MembersAgree, Agrees}

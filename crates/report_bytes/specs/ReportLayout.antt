@@ -1,9 +1,9 @@
 -- A report in the work slice, before it is written: the members with the numbers of their classes, and the steps of the trail.
 -- What bytes document 01 has for them.
 use Rattle.std.specs.Prelude.{List, ◌++◌, ℕ}
-use Rattle.list_laws.specs.Tabulate.{tabulate}
-use Rattle.lists.specs.Lists.{concat_map}
-use Rattle.sheets.specs.SheetBytes.{word_bytes}
+use Rattle.work_layout.specs.Tabulate.{tabulate}
+use Rattle.comparison_laws.specs.Lists.{concat_map}
+use Rattle.comparison_laws.specs.SheetBytes.{word_bytes}
 use Rattle.report_records.specs.RecordLayout.{member_bytes_at, step_bytes_at}
 
 -- the count of members and the members

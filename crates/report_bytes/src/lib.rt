@@ -1,6 +1,8 @@
 // The answer bytes of members that stand in the work slice with their classes, and of a report, which has the trail section behind them.
+#![tactic(auto)]
+
 ghost use Rattle.std.specs.Prelude.{◌≡◌, ◌++◌, ◌≤◌, length, drop};
-ghost use Rattle.text.specs.Slices.{Stored};
+ghost use Rattle.report_records.specs.Slices.{Stored};
 ghost use Rattle.report_bytes.specs.ReportLayout.{members_part, trail_part, held_bytes};
 ghost use Rattle.report_bytes.specs.ReportInSlice.{MembersHeld, StepsHeld, ReportHeld};
 

@@ -1,9 +1,9 @@
 -- Fields of an answer's bytes, whatever they are: a byte beyond the end counts as 0, a count above its limit as the limit.
 use Rattle.std.specs.Prelude.{cond, List, [], ◌∷◌, ℕ, ◌+◌, min, get_or, eqb}
-use Rattle.list_laws.specs.Tabulate.{tabulate}
-use Rattle.printed_lines.specs.Decimal.{decimal}
-use Rattle.sheets.specs.SheetLimits.{max_threads}
-use Rattle.sheets.specs.SheetBytes.{word}
+use Rattle.text.specs.Tabulate.{tabulate}
+use Rattle.text.specs.Decimal.{decimal}
+use Rattle.comparison.specs.SheetLimits.{max_threads}
+use Rattle.comparison.specs.SheetBytes.{word}
 use Rattle.comparison.specs.CallLimits.{no_reply, limits}
 use Rattle.comparison.specs.Print.{hyphen}
 

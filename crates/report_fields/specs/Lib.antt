@@ -1,2 +1,11 @@
+pub use Rattle.comparison.specs.CallLimits
+pub use Rattle.comparison.specs.Classes
+pub use Rattle.comparison.specs.Outcome
+pub use Rattle.comparison.specs.Print
+pub use Rattle.comparison.specs.Report
+pub use Rattle.comparison.specs.Sheet
+pub use Rattle.comparison.specs.SheetBytes
+pub use Rattle.comparison.specs.SheetLimits
+pub use Rattle.comparison.specs.Trail
 pub mod AnswerFields
 pub mod TextLaws

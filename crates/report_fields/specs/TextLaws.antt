@@ -1,9 +1,9 @@
 -- Laws of threads joined by plus signs, of short numbers, and of a text that is stored from a slice's start.
 use Rattle.std.specs.Prelude.{◌≡◌, refl, List, [], ◌∷◌, ◌++◌, ℕ, zero, suc, ◌+◌, ◌-◌, ◌≤◌, ◌<◌, length, drop, get_or}
-use Rattle.std.proofs.Common.{sym, ap, ap₂, ◌∙◌, subst, append_assoc, append-nil, zero-add, arith, eq_eqb, ne_eqb}
+use Rattle.std.proofs.Common.{sym, ap, ap₂, ◌∙◌, subst, append_assoc, append-nil, zero-add, arith, eq-eqb, ne_eqb}
 use Rattle.std.proofs.lemmas.List.Edits.{sets-eq}
-use Rattle.list_laws.specs.Tabulate.{tabulate, tabulate_none, tabulate_next, tabulate_same}
-use Rattle.printed_lines.specs.Decimal.{decimal}
+use Rattle.text.specs.Tabulate.{tabulate, tabulate_none, tabulate_next, tabulate_same}
+use Rattle.text.specs.Decimal.{decimal}
 use Rattle.text.specs.DecimalLaws.{decimal_short}
 use Rattle.comparison.specs.CallLimits.{no_reply}
 use Rattle.comparison.specs.Print.{plus, hyphen, more_threads, threads_text}
@@ -69,7 +69,7 @@ stored_as {before} {after} {at} {next} e s = subst (λ (t : List ℕ). Stored be
 
 -- the two ways of a reply
 pub reply_none : (n : ℕ) → n ≡ no_reply → hyphen ∷ [] ≡ reply_of n
-reply_none n e = rw (eq_eqb n no_reply e)
+reply_none n e = rw (eq-eqb n no_reply e)
 
 pub reply_some : (n : ℕ) → (n ≡ no_reply → ⊥) → decimal n ≡ reply_of n
 reply_some n e = rw (ne_eqb n no_reply e)

@@ -1,8 +1,10 @@
 // The fields of a report's text, from the answer bytes. A byte beyond the end counts as 0, and a count above its limit as the limit.
+#![tactic(auto)]
+
 ghost use Rattle.std.specs.Prelude.{◌≡◌, [], ◌∷◌, ◌+◌, ◌*◌, ◌≤◌, ◌<◌, length, get_or};
-ghost use Rattle.printed_lines.specs.Decimal.{decimal};
-ghost use Rattle.printed_lines.specs.Lines.{field};
-ghost use Rattle.sheets.specs.SheetBytes.{word};
+ghost use Rattle.text.specs.Decimal.{decimal};
+ghost use Rattle.text.specs.Lines.{field};
+ghost use Rattle.comparison.specs.SheetBytes.{word};
 ghost use Rattle.comparison.specs.Print.{plus, more_threads, threads_text};
 ghost use Rattle.text.specs.Slices.{Stored};
 ghost use Rattle.report_fields.specs.AnswerFields.{count_in, thread_count, threads_in, letter_of, reply_of};

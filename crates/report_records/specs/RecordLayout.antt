@@ -1,7 +1,7 @@
 -- One member and one step in the work slice, and the bytes that document 01 has for them.
 use Rattle.std.specs.Prelude.{List, [], ◌∷◌, ◌++◌, ℕ, ◌+◌, ◌*◌, ◌/◌, ◌%◌, get_or}
-use Rattle.sheets.specs.SheetBytes.{word_bytes}
-use Rattle.comparison.specs.Report.{member_bytes}
+use Rattle.packing.specs.SheetBytes.{word_bytes}
+use Rattle.work_layout.specs.Report.{member_bytes}
 use Rattle.packing.specs.Packing.{Packed}
 use Rattle.work_layout.specs.SetLayout.{member_at}
 use Rattle.work_layout.specs.WorkLayout.{members_at, steps_at}

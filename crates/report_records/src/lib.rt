@@ -1,7 +1,9 @@
 // The answer bytes of one member with its class, and of one step of the trail, from the work slice.
+#![tactic(auto)]
+
 ghost use Rattle.std.specs.Prelude.{◌+◌, ◌≤◌, ◌<◌, length, take};
 ghost use Rattle.packing.specs.Packing.{eight_bytes};
-ghost use Rattle.sheets.specs.SheetBytes.{word_bytes};
+ghost use Rattle.packing.specs.SheetBytes.{word_bytes};
 ghost use Rattle.text.specs.Slices.{Stored};
 ghost use Rattle.report_records.specs.RecordLayout.{PackedAt, side_in, member_bytes_at, step_bytes_at};
 ghost use Rattle.work_layout.specs.WorkLayout.{work_end, member_room};

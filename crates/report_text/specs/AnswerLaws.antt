@@ -1,17 +1,17 @@
 -- What is read of an answer that holds the bytes of a report: its members with their classes, and its steps.
 use Rattle.std.specs.Prelude.{◌≡◌, refl, List, ◌∷◌, ◌++◌, ℕ, ◌+◌, ◌≤◌, ◌<◌, length, get_or, take, drop}
-use Rattle.std.proofs.Common.{sym, ap, ap₂, ◌∙◌, append_assoc, arith, length-append, length-drop, get_or-drop, drop_drop, take_at}
+use Rattle.std.proofs.Common.{sym, ap, ap₂, ◌∙◌, append_assoc, arith, length-append, length-drop, get_or-drop, drop-drop, take_at}
 use Rattle.std.proofs.Math.Seq.{drop-append_seam}
-use Rattle.list_laws.specs.TabulateLaws.{part_tabulate}
-use Rattle.sheets.specs.SheetLimits.{max_threads}
-use Rattle.sheets.specs.SheetBytes.{word, word_bytes}
-use Rattle.sheets.specs.Sheet.{Configuration}
-use Rattle.comparison.specs.CallLimits.{no_reply}
-use Rattle.comparison.specs.Classes.{place_of, same_configuration}
-use Rattle.comparison_laws.specs.ClassLaws.{position_le}
-use Rattle.comparison.specs.Trail.{Side, left, right, Reply, none, move, TrailStep}
-use Rattle.comparison.specs.Report.{member_bytes, step_bytes, side_byte, reply_number}
-use Rattle.comparison.specs.Print.{member_line, step_line, side_letter, reply_text}
+use Rattle.text.specs.TabulateLaws.{part_tabulate}
+use Rattle.report_fields.specs.SheetLimits.{max_threads}
+use Rattle.report_fields.specs.SheetBytes.{word, word_bytes}
+use Rattle.report_fields.specs.Sheet.{Configuration}
+use Rattle.report_fields.specs.CallLimits.{no_reply}
+use Rattle.report_fields.specs.Classes.{place_of, same_configuration}
+use Rattle.answer_laws.specs.ClassLaws.{position_le}
+use Rattle.report_fields.specs.Trail.{Side, left, right, Reply, none, move, TrailStep}
+use Rattle.report_fields.specs.Report.{member_bytes, step_bytes, side_byte, reply_number}
+use Rattle.report_fields.specs.Print.{member_line, step_line, side_letter, reply_text}
 use Rattle.report_fields.specs.TextLaws.{reply_some}
 use Rattle.report_fields.specs.AnswerFields.{thread_count, threads_in, letter_of, reply_of}
 use Rattle.report_text.specs.AnswerText.{member_in, class_in, member_end, member_text, step_text, step_end}
@@ -27,7 +27,7 @@ pub word_read : (s : List ℕ) (at n : ℕ) (more : List ℕ) → drop at s ≡ 
 word_read s at n more h l = omega (arith, first_read s (word_bytes n ++ more) at h, byte_read s (word_bytes n ++ more) at 1 h)
 
 rest_from : (s l : List ℕ) (at k : ℕ) → drop at s ≡ l → drop (at + k) s ≡ drop k l
-rest_from s l at k h = sym (drop_drop k at s) ∙ ap (drop k) h
+rest_from s l at k h = sym (drop-drop k at s) ∙ ap (drop k) h
 
 -- after a two-byte number
 pub word_rest : (s : List ℕ) (at n : ℕ) (more : List ℕ) → drop at s ≡ word_bytes n ++ more → drop (at + 2) s ≡ more

@@ -1,10 +1,10 @@
 -- The text of an answer's bytes, whatever they are: a byte beyond the end counts as 0, a count above its limit as the limit.
 use Rattle.std.specs.Prelude.{Bool, true, false, List, [], ◌∷◌, ◌++◌, ℕ, ◌+◌, get_or}
-use Rattle.printed_lines.specs.Lines.{space, line_feed, field, line}
-use Rattle.sheets.specs.SheetBytes.{word}
-use Rattle.sheets.specs.Sheet.{Configuration}
-use Rattle.comparison.specs.Report.{SAME, DIFF}
-use Rattle.comparison.specs.Print.{verdict_word, configurations_word, trail_word, member_line}
+use Rattle.text.specs.Lines.{space, line_feed, field, line}
+use Rattle.report_fields.specs.SheetBytes.{word}
+use Rattle.report_fields.specs.Sheet.{Configuration}
+use Rattle.report_fields.specs.Report.{SAME, DIFF}
+use Rattle.report_fields.specs.Print.{verdict_word, configurations_word, trail_word, member_line}
 use Rattle.report_fields.specs.AnswerFields.{count_in, thread_count, threads_in, letter_of, reply_of}
 use Rattle.report_text.specs.Runs.{place_after, lines_of}
 

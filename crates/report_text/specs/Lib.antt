@@ -1,3 +1,5 @@
+pub use Rattle.answer_laws.specs.Fitting
+pub use Rattle.answer_laws.specs.FittingLaws
 pub mod Runs
 pub mod AnswerText
 pub mod AnswerLaws

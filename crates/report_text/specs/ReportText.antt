@@ -1,9 +1,9 @@
 -- What writing the text of a report from its bytes does.
 use Rattle.std.specs.Prelude.{◌≡◌, Bool, true, false, List, [], ◌∷◌, ◌++◌, ℕ, ◌+◌, ◌*◌, ◌≤◌, length, take, drop}
-use Rattle.printed_lines.specs.Lines.{line}
-use Rattle.comparison.specs.Report.{Verdict, SAME, DIFF, Report, report_bytes, report_length}
-use Rattle.comparison.specs.Outcome.{reported}
-use Rattle.comparison.specs.Print.{printed}
+use Rattle.text.specs.Lines.{line}
+use Rattle.report_fields.specs.Report.{Verdict, SAME, DIFF, Report, report_bytes, report_length}
+use Rattle.report_fields.specs.Outcome.{reported}
+use Rattle.report_fields.specs.Print.{printed}
 use Rattle.answer_laws.specs.Fitting.{Fitting}
 use Rattle.text.specs.Slices.{Stored}
 use Rattle.report_text.specs.AnswerText.{members_text, members_end, answer_text}

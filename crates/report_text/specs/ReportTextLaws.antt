@@ -1,22 +1,22 @@
 -- The text of an answer that begins with a report's bytes is the report's.
 use Rattle.std.specs.Prelude.{◌≡◌, refl, Bool, ℕ, ◌+◌, ◌≤◌, ◌<◌, length, take}
 use Rattle.std.proofs.Math.Path.{sym, ap}
-use Rattle.std.proofs.Common.{ap₂, ◌∙◌, arith, take-append-drop, length-take-le, drop_drop}
+use Rattle.std.proofs.Common.{ap₂, ◌∙◌, arith, take-append-drop, length-take-le, drop-drop}
 use mathlib.Core.List.{List, [], ◌∷◌, ◌++◌, append_assoc, Memᴰ}
 use Rattle.std.proofs.Math.ListN.{get_or, drop}
 use Rattle.std.proofs.Math.Seq.{drop-append_seam}
-use Rattle.lists.specs.Lists.{concat_map}
-use Rattle.list_laws.specs.ListPlaces.{get_d_in}
-use Rattle.printed_lines.specs.Lines.{line}
-use Rattle.sheets.specs.Sheet.{Configuration}
-use Rattle.comparison.specs.Classes.{place_of, class_of}
-use Rattle.comparison.specs.Trail.{TrailStep, left, none}
-use Rattle.sheets.specs.SheetBytes.{word_bytes}
-use Rattle.comparison.specs.Report.{Verdict, SAME, DIFF, Report, member_bytes, step_bytes, report_bytes, report_length}
-use Rattle.comparison.specs.Outcome.{reported}
-use Rattle.comparison.specs.Print.{verdict_word, configurations_word, trail_word, member_line, member_lines, step_line, printed}
+use Rattle.text.specs.Lists.{concat_map}
+use Rattle.text.specs.ListPlaces.{get_d_in}
+use Rattle.text.specs.Lines.{line}
+use Rattle.report_fields.specs.Sheet.{Configuration}
+use Rattle.report_fields.specs.Classes.{place_of, class_of}
+use Rattle.report_fields.specs.Trail.{TrailStep, left, none}
+use Rattle.report_fields.specs.SheetBytes.{word_bytes}
+use Rattle.report_fields.specs.Report.{Verdict, SAME, DIFF, Report, member_bytes, step_bytes, report_bytes, report_length}
+use Rattle.report_fields.specs.Outcome.{reported}
+use Rattle.report_fields.specs.Print.{verdict_word, configurations_word, trail_word, member_line, member_lines, step_line, printed}
 use Rattle.answer_laws.specs.Fitting.{Fitting}
-use Rattle.comparison_laws.specs.MemberPlaces.{place_of_member}
+use Rattle.answer_laws.specs.MemberPlaces.{place_of_member}
 use Rattle.text.specs.Slices.{Stored}
 use Rattle.text.specs.StoredText.{stored_length}
 use Rattle.report_text.specs.Runs.{run_whole}
@@ -110,7 +110,7 @@ module _ (q : Report) (fit : Fitting q) (answer : List ℕ) (begins : take (repo
   at_trail =
       let all : List ℕ = concat_map member_bytes_lem set in
       ap (λ (k : ℕ). drop k answer) (ap (members_end answer) count_is ∙ members_are.1)
-      ∙ sym (drop_drop (length all) 2 answer)
+      ∙ sym (drop-drop (length all) 2 answer)
       ∙ ap (drop (length all)) at_members
       ∙ drop-append_seam all (word_bytes (length steps) ++ steps_bytes)
 

@@ -1,14 +1,14 @@
 -- Records that stand one after another in a list of bytes, each with a line of text: where each begins, and the lines so far.
 use Rattle.std.specs.Prelude.{◌≡◌, refl, drop}
 use Rattle.std.proofs.Math.Path.{sym, ap, ap₂}
-use Rattle.std.proofs.Common.{◌∙◌, add-one, take-append-drop, take_all, drop-cons, drop_drop}
+use Rattle.std.proofs.Common.{◌∙◌, add-one, take-append-drop, take_all, drop-cons, drop-drop}
 use mathlib.Core.List.{List, [], ◌∷◌, ◌++◌, append_assoc}
 use Prim.Native.Nat.{ℕ, zero, suc, ◌+◌, ◌≤◌, ◌<◌}
 use native.Mathlib.Omega.{arith}
 use Rattle.std.proofs.Math.ListN.{length, get_or, take, length-append}
 use Rattle.std.proofs.Math.Seq.{take-suc, drop-append_seam}
-use Rattle.lists.specs.Lists.{concat_map}
-use Rattle.list_laws.specs.SortingLaws.{concat_map_next}
+use Rattle.text.specs.Lists.{concat_map}
+use Rattle.text.specs.SortingLaws.{concat_map_next}
 
 -- where the record after the first n begins; a record that begins at a place ends at `end` of it
 unfoldable pub place_after : (ℕ → ℕ) → ℕ → ℕ → ℕ
@@ -59,7 +59,7 @@ module _ {A : Type 0} (bytes line : A → List ℕ) (s : List ℕ) (piece : ℕ 
       let split : concat_map bytes xs ≡ done ++ (bytes (get_or xs n d) ++ more) =
       ap (concat_map bytes) (sym (take-append-drop n xs)) ∙ concat_map_append bytes (take n xs) (drop n xs)
       ∙ ap (λ (ys : List A). done ++ concat_map bytes ys) (drop-cons xs n d l) in
-      sym (drop_drop (length done) start s)
+      sym (drop-drop (length done) start s)
       ∙ ap (drop (length done)) (h ∙ ap (λ (b : List ℕ). b ++ rest) split ∙ append_assoc done (bytes (get_or xs n d) ++ more) rest)
       ∙ drop-append_seam done ((bytes (get_or xs n d) ++ more) ++ rest)
       ∙ append_assoc (bytes (get_or xs n d)) more rest

@@ -1,7 +1,9 @@
 // The text that the program prints of a report, from the verdict, the round and the answer bytes. It reads any bytes: one beyond
 // the end counts as 0, and a count above its limit as the limit.
+#![tactic(auto)]
+
 ghost use Rattle.std.specs.Prelude.{[], ◌∷◌, ◌+◌, ◌*◌, ◌≤◌, ◌<◌, length};
-ghost use Rattle.printed_lines.specs.Lines.{line};
+ghost use Rattle.text.specs.Lines.{line};
 ghost use Rattle.text.specs.Slices.{Stored};
 ghost use Rattle.report_text.specs.AnswerText.{member_text, step_text, steps_text, word_of};
 ghost use Rattle.report_text.specs.ReportText.{LineStored, MembersWritten, ReportWritten};

@@ -1,3 +1,12 @@
+pub use Rattle.number_lists.specs.Counting
+pub use Rattle.number_lists.specs.Frames
+pub use Rattle.number_lists.specs.ListPlaces
+pub use Rattle.number_lists.specs.Lists
+pub use Rattle.number_lists.specs.NumberLaws
+pub use Rattle.number_lists.specs.NumberLists
+pub use Rattle.number_lists.specs.Tabulate
+pub use Rattle.number_lists.specs.TabulateLaws
+pub use Rattle.work_layout.specs.TestLaws
 pub mod MemberLinesFound
 pub mod SettledMoves
 pub mod WatchingMembers

@@ -1,28 +1,28 @@
 -- The lines of one member, put in one after the other.
 use Rattle.std.specs.Prelude.{◌≡◌, refl, ◌⊎◌, Bool, true, false, not, ℕ, suc, ◌+◌, ◌-◌, ◌/◌, ◌%◌, ◌≤◌, ◌<◌, length, get_or, set, eqb, ltb}
-use Rattle.std.proofs.Common.{sym, ap, ap₂, ◌∙◌, subst, inl, inr, arith, length-set, get_or-set_same, get_or_set_other, eqb-true, ltb-true, ltb-false}
+use Rattle.std.proofs.Common.{sym, ap, ap₂, ◌∙◌, subst, inl, inr, arith, length-set, get_or-set_same, get_or-set_other, eqb-true, ltb-true, ltb-false}
 use mathlib.Core.List.Memᴰ
 use mathlib.Core.List.{List, [], ◌∷◌, Memᴰ}
 use Rattle.std.proofs.lemmas.Bool.{eqb-false}
-use Rattle.list_laws.specs.TestLaws.{true_false, Tested, tested, passes, fails}
-use Rattle.lists.specs.Lists.{Ascends, enter}
-use Rattle.list_laws.specs.AscendingLaws.{ascends_unique, enter_in, enter_keeps, enter_only, enter_ascends, number_order}
-use Rattle.list_laws.specs.Frames.{outside_set}
-use Rattle.list_laws.specs.ListPlaces.{get_d_in}
+use Rattle.work_layout.specs.TestLaws.{true_false, Tested, tested, passes, fails}
+use Rattle.number_lists.specs.Lists.{Ascends, enter}
+use Rattle.number_lists.specs.AscendingLaws.{ascends_unique, enter_in, enter_keeps, enter_only, enter_ascends, number_order}
+use Rattle.number_lists.specs.Frames.{outside_set}
+use Rattle.number_lists.specs.ListPlaces.{get_d_in}
 use Rattle.number_lists.specs.NumberLists.{numbers_in}
 use Rattle.number_lists.specs.NumberLaws.{numbers_none, numbers_none_ascend, numbers_outside}
 use Rattle.number_lists.specs.declared.Put.{Put}
 use Rattle.number_lists.specs.declared.Put.TheVariants.{Until, Full}
 use Rattle.number_lists.specs.Entered.{Entered, NoRoom, PutIs}
 use Rattle.number_lists.specs.EnteredLaws.{entered_ascends}
-use Rattle.sheets.specs.Sheet.{Configuration, Sheet}
-use Rattle.moves.specs.Orders.{Move}
-use Rattle.moves.specs.Moves.{moves}
+use Rattle.dominators.specs.Sheet.{Configuration, Sheet}
+use Rattle.dominators.specs.Orders.{Move}
+use Rattle.dominators.specs.Moves.{moves}
 use Rattle.work_layout.specs.SetLayout.{member_at, first_move, move_total}
-use Rattle.comparison.specs.Rounds.{redundant}
-use Rattle.kept_classes.specs.MemberLines.{packed_line, line_of, lines_of, lines_ascend, line_in, line_only}
+use Rattle.work_layout.specs.Rounds.{redundant}
+use Rattle.dominators.specs.MemberLines.{packed_line, line_of, lines_of, lines_ascend, line_in, line_only}
 use Rattle.dominators.specs.KeptMoves.{no_move_lem, move_of, MoveKept, RoundHeld, MemberHeld, span_count, span_line}
-use Rattle.dominance_tests.specs.KeptNumbers.{KeptFits}
+use Rattle.dominators.specs.KeptNumbers.{KeptFits}
 use Rattle.dominators.specs.SliceShapes.{Stands, stands_same, SpanFits, SpanOnly, only_none, only_then, MemberOnly, LinedOnly, span_lined, lined_class, lined_member, lined_fits}
 use Rattle.dominators.specs.DominatorSearch.{Judged}
 use Rattle.work_layout.specs.WorkLayout.{moves_at, dominators_at, line_totals_at, classes_at, lines_at, move_room}
@@ -338,16 +338,16 @@ counted : (w : List ℕ) (n i : ℕ) → i < n → SpanFits w n (first_move w i)
 counted w n i l fit v end x L e = record {
   only = record {
     long = length-set v (line_totals_at + i) x ∙ L.only.long;
-    low = λ k a. get_or_set_other v (line_totals_at + i) k x 0 (λ z. omega (arith, fit.span)) ∙ L.only.low k a;
-    between = λ k d a b. get_or_set_other v (line_totals_at + i) k x 0 d ∙ L.only.between k a b;
-    high = λ k a. get_or_set_other v (line_totals_at + i) k x 0 (λ z. omega (arith, fit.few)) ∙ L.only.high k a;
+    low = λ k a. get_or-set_other v (line_totals_at + i) k x 0 (λ z. omega (arith, fit.span)) ∙ L.only.low k a;
+    between = λ k d a b. get_or-set_other v (line_totals_at + i) k x 0 d ∙ L.only.between k a b;
+    high = λ k a. get_or-set_other v (line_totals_at + i) k x 0 (λ z. omega (arith, fit.few)) ∙ L.only.high k a;
   };
   fits = λ j h. subst KeptFits (sym (kept_same j h)) (L.fits j h);
   few = omega (arith, total_is, L.ends);
   stands = λ j h.
       stands_same v (set v (line_totals_at + i) x) (first_move w i) j (kept_same j h)
-      (ap (λ (z : ℕ). z % 65536) (get_or_set_other v (line_totals_at + i) (moves_at + first_move w i + j) x 0 (λ z. omega (arith, fit.span))))
-      (λ k b. get_or_set_other v (line_totals_at + i) (classes_at + k) x 0 (λ z. omega (arith, fit.few)))
+      (ap (λ (z : ℕ). z % 65536) (get_or-set_other v (line_totals_at + i) (moves_at + first_move w i + j) x 0 (λ z. omega (arith, fit.span))))
+      (λ k b. get_or-set_other v (line_totals_at + i) (classes_at + k) x 0 (λ z. omega (arith, fit.few)))
       (omega (arith, (lined_fits (span_lined fit.span L.only) fit L.fits).targets j h, fit.few)) (L.fits j h) (L.stands j h);
   lines = λ sheet set numbers m rd R K.
       let M : MemberHeld sheet set numbers (member_at w i) w n m rd i (first_move w i) (move_total w i) =
@@ -360,7 +360,7 @@ counted w n i l fit v end x L e = record {
   where
     kept_same : (j : ℕ) → j < move_total w i
         → get_or (set v (line_totals_at + i) x) (dominators_at + first_move w i + j) 0 ≡ get_or v (dominators_at + first_move w i + j) 0
-    kept_same j h = get_or_set_other v (line_totals_at + i) (dominators_at + first_move w i + j) x 0 (λ z. omega (arith, fit.span))
+    kept_same j h = get_or-set_other v (line_totals_at + i) (dominators_at + first_move w i + j) x 0 (λ z. omega (arith, fit.span))
 
     total_is : get_or (set v (line_totals_at + i) x) (line_totals_at + i) 0 ≡ x
     total_is = get_or-set_same v (line_totals_at + i) x 0 (omega (arith, fit.long, fit.few, L.only.long))

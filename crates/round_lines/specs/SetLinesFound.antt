@@ -2,16 +2,16 @@
 use Rattle.std.specs.Prelude.{◌≡◌, refl, ◌⊎◌, List, ℕ, ◌+◌, ◌-◌, ◌*◌, ◌%◌, ◌≤◌, ◌<◌, get_or, eqb, ltb}
 use Rattle.std.proofs.Common.{sym, ap, ap₂, ◌∙◌, subst, inl, inr, arith, eqb-true, ltb-true, ltb-false}
 use Rattle.std.proofs.lemmas.Bool.{eqb-false}
-use Rattle.list_laws.specs.TestLaws.{Tested, tested, passes, fails}
+use Rattle.work_layout.specs.TestLaws.{Tested, tested, passes, fails}
 use Rattle.number_lists.specs.NumberLists.{numbers_in}
 use Rattle.number_lists.specs.NumberLaws.{numbers_same}
 use Rattle.place_sets.specs.PlaceSets.{InSet}
-use Rattle.sheets.specs.Sheet.{Configuration, Sheet}
+use Rattle.dominators.specs.Sheet.{Configuration, Sheet}
 use Rattle.work_layout.specs.SetLayout.{member_at, first_move, move_total}
-use Rattle.kept_classes.specs.MemberLines.{lines_of}
-use Rattle.kept_classes.specs.RoundLayout.{held_member_same}
+use Rattle.dominators.specs.MemberLines.{lines_of}
+use Rattle.dominators.specs.RoundLayout.{held_member_same}
 use Rattle.dominators.specs.KeptMoves.{MoveKept, DominatorsKept, RoundHeld}
-use Rattle.dominance_tests.specs.KeptNumbers.{KeptFits}
+use Rattle.dominators.specs.KeptNumbers.{KeptFits}
 use Rattle.dominators.specs.SliceShapes.{kept_at, target_at, Stands, stands_same, SpanFits, Shape, LinedOnly, lined_none, lined_then, member_lined, lined_set, lined_class, lined_first, lined_total, lined_round, lined_fits}
 use Rattle.round_lines.specs.MemberLinesFound.{line_total, MemberDone}
 use Rattle.round_lines.specs.WatchingMembers.{SetsGrown, grown_none, grown_then, MoveWatched, MemberWatches}

@@ -1,20 +1,20 @@
 -- A member whose lines are those of the round before: each of its moves is either irredundant for good, with a target whose
 -- class was not born since, or still dominated by the move that is kept for it.
 use Rattle.std.specs.Prelude.{◌≡◌, ◌⊎◌, true, false, not, ℕ, ◌+◌, ◌*◌, ◌/◌, ◌%◌, ◌<◌, get_or}
-use Rattle.std.proofs.Common.{sym, ap, ◌∙◌, subst, inl, inr, arith, eq_eqb}
+use Rattle.std.proofs.Common.{sym, ap, ◌∙◌, subst, inl, inr, arith, eq-eqb}
 use mathlib.Core.List.{List, Memᴰ}
-use Rattle.list_laws.specs.TestLaws.{true_false, and_left, and_right, and_intro}
-use Rattle.list_laws.specs.ListPlaces.{get_d_any, get_d_in}
-use Rattle.stores.specs.Stores.{strictly_below}
-use Rattle.sheets.specs.Sheet.{Configuration, Sheet}
-use Rattle.moves.specs.Orders.{Move}
-use Rattle.moves.specs.Moves.{moves, add}
+use Rattle.work_layout.specs.TestLaws.{true_false, and_left, and_right, and_intro}
+use Rattle.number_lists.specs.ListPlaces.{get_d_any, get_d_in}
+use Rattle.place_sets.specs.Stores.{strictly_below}
+use Rattle.dominators.specs.Sheet.{Configuration, Sheet}
+use Rattle.dominators.specs.Orders.{Move}
+use Rattle.dominators.specs.Moves.{moves, add}
 use Rattle.work_layout.specs.SetLayout.{member_at}
-use Rattle.comparison.specs.Classes.{class_of, share}
-use Rattle.comparison.specs.Rounds.{redundant}
-use Rattle.kept_classes.specs.DominatingMoves.{dominates, Passed, passed_own, kept_redundant}
-use Rattle.kept_classes.specs.MemberLines.{packed_line, line_of, lines_of}
-use Rattle.kept_classes.specs.RoundLayout.{held_place}
+use Rattle.work_layout.specs.Classes.{class_of, share}
+use Rattle.work_layout.specs.Rounds.{redundant}
+use Rattle.dominators.specs.DominatingMoves.{dominates, Passed, passed_own, kept_redundant}
+use Rattle.dominators.specs.MemberLines.{packed_line, line_of, lines_of}
+use Rattle.dominators.specs.RoundLayout.{held_place}
 use Rattle.dominators.specs.KeptMoves.{no_move_lem, move_of, MoveKept, MemberHeld, span_count, span_in, span_move, span_target, span_line, shows_dominates}
 use Rattle.dominators.specs.SliceShapes.{kept_at, target_at, Stands}
 use Rattle.round_lines.specs.MemberLinesFound.{LinesSoFar, so_far_lines, so_far_all}
@@ -112,7 +112,7 @@ module _ {sheet : Sheet} {set : List Configuration} {numbers : List ℕ} {p : Co
       let k : ℕ = kept_at w first j / 65536 in
       let l : k < total = omega (arith, x.0) in
       let y : dominates sheet set numbers (move_of sheet p j) (move_of sheet p k) ≡ true =
-      shows_dominates M j k (kept_at w first j % 65536) h l x.1 ∙ eq_eqb _ _ s.1 in
+      shows_dominates M j k (kept_at w first j % 65536) h l x.1 ∙ eq-eqb _ _ s.1 in
       inr (makes before j k l (dominated j k h l y), makes numbers j k l y)
 
   -- a member whose moves are all settled has the same lines in both rounds

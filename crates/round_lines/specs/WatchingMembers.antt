@@ -3,7 +3,7 @@
 use Rattle.std.specs.Prelude.{◌≡◌, refl, List, ℕ, suc, ◌+◌, ◌*◌, ◌/◌, ◌%◌, ◌≤◌, ◌<◌, length, eqb}
 use Rattle.std.proofs.Common.{sym, ap, ◌∙◌, subst, suc-mul, mul-le-mul_right, arith, length-set, eqb-true}
 use Rattle.std.proofs.lemmas.Bool.{eqb-false}
-use Rattle.list_laws.specs.TestLaws.{Tested, tested, passes, fails}
+use Rattle.work_layout.specs.TestLaws.{Tested, tested, passes, fails}
 use Rattle.place_sets.specs.PlaceSets.{InSet, with_place}
 use Rattle.place_sets.specs.PlaceLaws.{place_in, place_more}
 use Rattle.work_layout.specs.SetLayout.{first_move, move_total}

@@ -1,10 +1,12 @@
 // The lines of a member in a round: label and class of the target of each of its irredundant moves. Members whose lines can change
 // with the class of another are put into its set.
+#![tactic(auto)]
+
 ghost use Rattle.std.specs.Prelude.{◌≡◌, ℕ, ◌+◌, ◌*◌, ◌/◌, ◌%◌, ◌≤◌, ◌<◌, length, get_or};
-ghost use Rattle.lists.specs.Lists.{Ascends};
-ghost use Rattle.list_laws.specs.AscendingLaws.{number_order};
+ghost use Rattle.number_lists.specs.Lists.{Ascends};
+ghost use Rattle.number_lists.specs.AscendingLaws.{number_order};
 ghost use Rattle.number_lists.specs.NumberLists.{numbers_in};
-ghost use Rattle.kept_classes.specs.MemberLines.{packed_line};
+ghost use Rattle.dominators.specs.MemberLines.{packed_line};
 ghost use Rattle.dominators.specs.SliceShapes.{target_at, SpanFits, Shape};
 ghost use Rattle.round_lines.specs.MemberLinesFound.{LineMoved, MemberDone};
 ghost use Rattle.round_lines.specs.WatchingMembers.{SetsGrown, MoveWatched, MemberWatches};

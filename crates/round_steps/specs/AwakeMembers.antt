@@ -2,11 +2,11 @@
 use Rattle.std.specs.Prelude.{◌≡◌, ◌⊎◌, List, ℕ, suc, ◌+◌, ◌*◌, ◌≤◌, ◌<◌, get_or, eqb}
 use Rattle.std.proofs.Common.{sym, ap, ◌∙◌, subst, inl, inr, suc-mul, mul-le-mul_right, arith, eqb-true}
 use Rattle.std.proofs.lemmas.Bool.{eqb-false}
-use Rattle.list_laws.specs.TestLaws.{Tested, tested, passes, fails}
-use Rattle.list_laws.specs.Frames.{SameOutside, outside_same}
+use Rattle.work_layout.specs.TestLaws.{Tested, tested, passes, fails}
+use Rattle.work_layout.specs.Frames.{SameOutside, outside_same}
 use Rattle.place_sets.specs.PlaceSets.{place_digit, InSet, United, Listed}
 use Rattle.place_sets.specs.PlaceLaws.{united_left, united_right}
-use Rattle.round_lines.specs.SetLinesFound.{InList}
+use Rattle.class_splits.specs.SetLinesFound.{InList}
 use Rattle.class_splits.specs.ClassedPlaces.{chosen_in, Classed}
 use Rattle.class_splits.specs.ChosenPlaces.{chosen_classed}
 use Rattle.round_steps.specs.ChosenMembers.{Rechosen}

@@ -2,7 +2,7 @@
 use Rattle.std.specs.Prelude.{◌≡◌, List, ℕ, ◌+◌, ◌≤◌, ◌<◌, length, set, eqb}
 use Rattle.std.proofs.Common.{subst, arith, eqb-true}
 use Rattle.std.proofs.lemmas.Bool.{eqb-false}
-use Rattle.list_laws.specs.TestLaws.{Tested, tested, passes, fails}
+use Rattle.work_layout.specs.TestLaws.{Tested, tested, passes, fails}
 use Rattle.place_sets.specs.PlaceSets.{InSet}
 use Rattle.class_splits.specs.ChosenPlaces.{PlacesChosen, chosen_none, chosen_same, chosen_next}
 use Rattle.work_layout.specs.WorkLayout.{work_end, chosen_at, member_room}

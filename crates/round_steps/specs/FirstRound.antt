@@ -1,9 +1,9 @@
 -- Round 0: a class for each store. The members stand in ascending order of their stores, so equal stores stand side by side.
 use Rattle.std.specs.Prelude.{◌≡◌, refl, Bool, true, false, not, List, ℕ, suc, ◌+◌, ◌-◌, ◌*◌, ◌/◌, ◌≤◌, ◌<◌, length, get_or, set, eqb}
-use Rattle.std.proofs.Common.{sym, ap, ◌∙◌, subst, inl, arith, add-one, length-set, get_or-set_same, get_or_set_other, eqb-true, eq_eqb}
+use Rattle.std.proofs.Common.{sym, ap, ◌∙◌, subst, inl, arith, add-one, length-set, get_or-set_same, get_or-set_other, eqb-true, eq-eqb}
 use Rattle.std.proofs.lemmas.Bool.{eqb-false, not-true}
-use Rattle.list_laws.specs.TestLaws.{true_false, not_passes, Tested, tested, passes, fails}
-use Rattle.list_laws.specs.Frames.{SameOutside, outside_same, outside_set, outside_again}
+use Rattle.work_layout.specs.TestLaws.{true_false, not_passes, Tested, tested, passes, fails}
+use Rattle.work_layout.specs.Frames.{SameOutside, outside_same, outside_set, outside_again}
 use Rattle.work_layout.specs.SetLayout.{member_at}
 use Rattle.class_splits.specs.ClassedPlaces.{chosen_in, Classed, classed_new, classed_append}
 use Rattle.work_layout.specs.WorkLayout.{work_end, members_at, classes_at, births_at, chosen_at, lines_at, member_room}
@@ -27,7 +27,7 @@ told_first w i e = record { another = λ h l. absurd (omega arith); same = λ h.
 
 pub told_later : (w : List ℕ) (i a b : ℕ) → 0 < i → a ≡ store_in w (i - 1) → b ≡ store_in w i → StoreTold w i (not (eqb a b))
 told_later w i a b h ea eb = record {
-  another = λ t l e. true_false (eqb a b) (eq_eqb a b (ea ∙ e ∙ sym eb)) (not-true (eqb a b) t);
+  another = λ t l e. true_false (eqb a b) (eq-eqb a b (ea ∙ e ∙ sym eb)) (not-true (eqb a b) t);
   same = λ t. (h, sym ea ∙ eqb-true a b (go (tested (eqb a b)) t) ∙ eb);
 }
   where
@@ -131,25 +131,25 @@ module _ (v : List ℕ) (i : ℕ) (w : List ℕ) (count : ℕ) (F : Founding v i
 
       classes : (j : ℕ) → j < member_room → (j ≡ i → ⊥) → class_in x j ≡ class_in w j
       classes j h e =
-          get_or_set_other b (classes_at + i) (classes_at + j) count 0 (λ z. e (omega arith))
-          ∙ get_or_set_other a (chosen_at + count) (classes_at + j) i 0 (λ z. omega arith)
-          ∙ get_or_set_other w (births_at + count) (classes_at + j) 0 0 (λ z. omega arith)
+          get_or-set_other b (classes_at + i) (classes_at + j) count 0 (λ z. e (omega arith))
+          ∙ get_or-set_other a (chosen_at + count) (classes_at + j) i 0 (λ z. omega arith)
+          ∙ get_or-set_other w (births_at + count) (classes_at + j) 0 0 (λ z. omega arith)
 
       first_own : chosen_in x count ≡ i
       first_own =
-          get_or_set_other b (classes_at + i) (chosen_at + count) count 0 (λ z. omega arith)
+          get_or-set_other b (classes_at + i) (chosen_at + count) count 0 (λ z. omega arith)
           ∙ get_or-set_same a (chosen_at + count) i 0 (omega (arith, la, F.count_fits))
 
       first : (c : ℕ) → c < count → chosen_in x c ≡ chosen_in w c
       first c h =
-          get_or_set_other b (classes_at + i) (chosen_at + c) count 0 (λ z. omega arith)
-          ∙ get_or_set_other a (chosen_at + count) (chosen_at + c) i 0 (λ z. omega arith)
-          ∙ get_or_set_other w (births_at + count) (chosen_at + c) 0 0 (λ z. omega (arith, F.count_fits))
+          get_or-set_other b (classes_at + i) (chosen_at + c) count 0 (λ z. omega arith)
+          ∙ get_or-set_other a (chosen_at + count) (chosen_at + c) i 0 (λ z. omega arith)
+          ∙ get_or-set_other w (births_at + count) (chosen_at + c) 0 0 (λ z. omega (arith, F.count_fits))
 
       born : (c : ℕ) → c < suc count → Tested (eqb c count) → get_or x (births_at + c) 0 ≡ 0
       born c h t =
-          get_or_set_other b (classes_at + i) (births_at + c) count 0 (λ z. omega arith)
-          ∙ get_or_set_other a (chosen_at + count) (births_at + c) i 0 (λ z. omega (arith, F.count_fits))
+          get_or-set_other b (classes_at + i) (births_at + c) count 0 (λ z. omega arith)
+          ∙ get_or-set_other a (chosen_at + count) (births_at + c) i 0 (λ z. omega (arith, F.count_fits))
           ∙ go t
         where
           go : Tested (eqb c count) → get_or a (births_at + c) 0 ≡ 0
@@ -158,7 +158,7 @@ module _ (v : List ℕ) (i : ℕ) (w : List ℕ) (count : ℕ) (F : Founding v i
               ∙ get_or-set_same w (births_at + count) 0 0 (omega (arith, F.only.long, F.count_fits))
           go (fails e) =
               let d : c ≡ count → ⊥ = eqb-false c count e in
-              get_or_set_other w (births_at + count) (births_at + c) 0 0 (λ z. d (omega arith)) ∙ F.founders c (omega arith)
+              get_or-set_other w (births_at + count) (births_at + c) 0 0 (λ z. d (omega arith)) ∙ F.founders c (omega arith)
 
       before : i + 1 - 1 ≡ i
       before = omega arith
@@ -207,7 +207,7 @@ module _ (v : List ℕ) (i : ℕ) (w : List ℕ) (count : ℕ) (F : Founding v i
       own = get_or-set_same w (classes_at + i) (count - 1) 0 (omega (arith, lw))
 
       classes : (j : ℕ) → j < i → class_in x j ≡ class_in w j
-      classes j l = get_or_set_other w (classes_at + i) (classes_at + j) (count - 1) 0 (λ z. omega arith)
+      classes j l = get_or-set_other w (classes_at + i) (classes_at + j) (count - 1) 0 (λ z. omega arith)
 
       before : i + 1 - 1 ≡ i
       before = omega arith
@@ -216,8 +216,8 @@ module _ (v : List ℕ) (i : ℕ) (w : List ℕ) (count : ℕ) (F : Founding v i
       more = record {
         only = outside_again F.only (outside_set classes_at lines_at w (classes_at + i) (count - 1) (omega arith) (omega arith));
         classed = classed_append F.classed (count - 1) some x own classes
-            (λ c l. get_or_set_other w (classes_at + i) (chosen_at + c) (count - 1) 0 (λ z. omega arith));
-        founders = λ c l. get_or_set_other w (classes_at + i) (births_at + c) (count - 1) 0 (λ z. omega arith) ∙ F.founders c l;
+            (λ c l. get_or-set_other w (classes_at + i) (chosen_at + c) (count - 1) 0 (λ z. omega arith));
+        founders = λ c l. get_or-set_other w (classes_at + i) (births_at + c) (count - 1) 0 (λ z. omega arith) ∙ F.founders c l;
         newest = λ l. omega (arith, ap (class_in x) before, own, some);
         count_fits = omega (arith, F.count_fits);
         same_store = λ j k hj hk. stores_next x (count - 1) count own classes

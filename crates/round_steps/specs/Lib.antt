@@ -1,3 +1,8 @@
+pub use Rattle.class_splits.specs.ChosenPlaces
+pub use Rattle.class_splits.specs.ClassedPlaces
+pub use Rattle.class_splits.specs.LineTests
+pub use Rattle.place_sets.specs.PlaceSets
+pub use Rattle.place_sets.specs.StoreLaws
 pub mod FirstRound
 pub mod ChosenMembers
 pub mod SplitRounds

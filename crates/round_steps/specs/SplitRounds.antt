@@ -1,13 +1,13 @@
 -- One round, member by member: those that are done have their classes of the next round, the others still have the present ones.
 use Rattle.std.specs.Prelude.{◌≡◌, refl, ◌⊎◌, true, false, List, ℕ, ◌+◌, ◌*◌, ◌/◌, ◌%◌, ◌≤◌, ◌<◌, length, get_or, set, eqb, ltb}
-use Rattle.std.proofs.Common.{sym, ap, ap₂, ◌∙◌, subst, inl, inr, arith, add-one, length-set, get_or-set_same, get_or_set_other, eqb-true, ltb-true, ltb-false}
+use Rattle.std.proofs.Common.{sym, ap, ap₂, ◌∙◌, subst, inl, inr, arith, add-one, length-set, get_or-set_same, get_or-set_other, eqb-true, ltb-true, ltb-false}
 use Rattle.std.proofs.lemmas.Bool.{eqb-false}
-use Rattle.list_laws.specs.TestLaws.{Tested, tested, passes, fails}
-use Rattle.list_laws.specs.Frames.{SameOutside, outside_same, outside_set, outside_again}
-use Rattle.number_lists.specs.NumberLists.{numbers_in}
-use Rattle.number_lists.specs.NumberLaws.{numbers_outside}
+use Rattle.work_layout.specs.TestLaws.{Tested, tested, passes, fails}
+use Rattle.work_layout.specs.Frames.{SameOutside, outside_same, outside_set, outside_again}
+use Rattle.work_layout.specs.NumberLists.{numbers_in}
+use Rattle.work_layout.specs.NumberLaws.{numbers_outside}
 use Rattle.work_layout.specs.SetLayout.{first_move}
-use Rattle.round_lines.specs.MemberLinesFound.{line_total}
+use Rattle.class_splits.specs.MemberLinesFound.{line_total}
 use Rattle.class_splits.specs.ClassedPlaces.{chosen_in, Classed, classed_count, classed_spare, classed_join, classed_new}
 use Rattle.class_splits.specs.LineTests.{lines_held, PartFits}
 use Rattle.class_splits.specs.MemberSplits.{MemberReady, MemberSplit, keeps, joins, begins}
@@ -161,16 +161,16 @@ module _ (v : List ℕ) (n round old : ℕ) (w : List ℕ) (count : ℕ) (Done :
       joined_here = get_or-set_same w (classes_at + k) p 0 (omega (arith, long_now))
 
       joined_other : (i : ℕ) → (i ≡ k → ⊥) → class_in joined i ≡ class_in w i
-      joined_other i e = get_or_set_other w (classes_at + k) (classes_at + i) p 0 (λ z. e (omega arith))
+      joined_other i e = get_or-set_other w (classes_at + k) (classes_at + i) p 0 (λ z. e (omega arith))
 
       joined_birth : (c : ℕ) → c < member_room → get_or joined (births_at + c) 0 ≡ get_or w (births_at + c) 0
-      joined_birth c h = get_or_set_other w (classes_at + k) (births_at + c) p 0 (λ z. omega arith)
+      joined_birth c h = get_or-set_other w (classes_at + k) (births_at + c) p 0 (λ z. omega arith)
 
       joined_from : (c : ℕ) → c < member_room → from_in_lem joined c ≡ from_in_lem w c
       joined_from c h = ap (λ (x : ℕ). x / 65536) (joined_birth c h)
 
       joined_chosen : (c : ℕ) → chosen_in joined c ≡ chosen_in w c
-      joined_chosen c = get_or_set_other w (classes_at + k) (chosen_at + c) p 0 (λ z. omega arith)
+      joined_chosen c = get_or-set_other w (classes_at + k) (chosen_at + c) p 0 (λ z. omega arith)
 
       joins_next : Splitting v n round old joined count More
       joins_next = record {
@@ -243,8 +243,8 @@ module _ (v : List ℕ) (n round old : ℕ) (w : List ℕ) (count : ℕ) (Done :
       begun_here : class_in u k ≡ count
       begun_here =
           ap (λ (g : List ℕ). class_in g k) eu
-          ∙ get_or_set_other a2 (chosen_at + count) (classes_at + k) k 0 (λ z. omega arith)
-          ∙ get_or_set_other a1 (births_at + count) (classes_at + k) number 0 (λ z. omega arith)
+          ∙ get_or-set_other a2 (chosen_at + count) (classes_at + k) k 0 (λ z. omega arith)
+          ∙ get_or-set_other a1 (births_at + count) (classes_at + k) number 0 (λ z. omega arith)
           ∙ get_or-set_same w (classes_at + k) count 0 (omega (arith, long_now))
 
       chosen_new : chosen_in u count ≡ k
@@ -256,28 +256,28 @@ module _ (v : List ℕ) (n round old : ℕ) (w : List ℕ) (count : ℕ) (Done :
       begun_other : (i : ℕ) → i < member_room → (i ≡ k → ⊥) → class_in u i ≡ class_in w i
       begun_other i h y =
           ap (λ (g : List ℕ). class_in g i) eu
-          ∙ get_or_set_other a2 (chosen_at + count) (classes_at + i) k 0 (λ z. omega arith)
-          ∙ get_or_set_other a1 (births_at + count) (classes_at + i) number 0 (λ z. omega arith)
-          ∙ get_or_set_other w (classes_at + k) (classes_at + i) count 0 (λ z. y (omega arith))
+          ∙ get_or-set_other a2 (chosen_at + count) (classes_at + i) k 0 (λ z. omega arith)
+          ∙ get_or-set_other a1 (births_at + count) (classes_at + i) number 0 (λ z. omega arith)
+          ∙ get_or-set_other w (classes_at + k) (classes_at + i) count 0 (λ z. y (omega arith))
 
       begun_chosen : (c : ℕ) → c < count → chosen_in u c ≡ chosen_in w c
       begun_chosen c h =
           ap (λ (g : List ℕ). chosen_in g c) eu
-          ∙ get_or_set_other a2 (chosen_at + count) (chosen_at + c) k 0 (λ z. omega arith)
-          ∙ get_or_set_other a1 (births_at + count) (chosen_at + c) number 0 (λ z. omega (arith, room))
-          ∙ get_or_set_other w (classes_at + k) (chosen_at + c) count 0 (λ z. omega arith)
+          ∙ get_or-set_other a2 (chosen_at + count) (chosen_at + c) k 0 (λ z. omega arith)
+          ∙ get_or-set_other a1 (births_at + count) (chosen_at + c) number 0 (λ z. omega (arith, room))
+          ∙ get_or-set_other w (classes_at + k) (chosen_at + c) count 0 (λ z. omega arith)
 
       begun_birth : (c : ℕ) → c < count → get_or u (births_at + c) 0 ≡ get_or w (births_at + c) 0
       begun_birth c h =
           ap (λ (g : List ℕ). get_or g (births_at + c) 0) eu
-          ∙ get_or_set_other a2 (chosen_at + count) (births_at + c) k 0 (λ z. omega (arith, room))
-          ∙ get_or_set_other a1 (births_at + count) (births_at + c) number 0 (λ z. omega arith)
-          ∙ get_or_set_other w (classes_at + k) (births_at + c) count 0 (λ z. omega arith)
+          ∙ get_or-set_other a2 (chosen_at + count) (births_at + c) k 0 (λ z. omega (arith, room))
+          ∙ get_or-set_other a1 (births_at + count) (births_at + c) number 0 (λ z. omega arith)
+          ∙ get_or-set_other w (classes_at + k) (births_at + c) count 0 (λ z. omega arith)
 
       birth_new : get_or u (births_at + count) 0 ≡ number
       birth_new =
           ap (λ (g : List ℕ). get_or g (births_at + count) 0) eu
-          ∙ get_or_set_other a2 (chosen_at + count) (births_at + count) k 0 (λ z. omega (arith, room))
+          ∙ get_or-set_other a2 (chosen_at + count) (births_at + count) k 0 (λ z. omega (arith, room))
           ∙ get_or-set_same a1 (births_at + count) number 0 (omega (arith, length-set w (classes_at + k) count, long_now, room))
 
       begun_from : (c : ℕ) → c < count → from_in_lem u c ≡ from_in_lem w c

@@ -1,9 +1,11 @@
 // What a round is made of: the classes of round 0, a chosen member of each class, the listed members split, and the members whose
 // lines can change in the next round.
+#![tactic(auto)]
+
 ghost use Rattle.std.specs.Prelude.{◌≡◌, ℕ, ◌+◌, ◌*◌, ◌≤◌, ◌<◌, false, length, get_or};
 ghost use Rattle.work_layout.specs.SetLayout.{first_move};
-ghost use Rattle.round_lines.specs.MemberLinesFound.{line_total};
-ghost use Rattle.round_lines.specs.SetLinesFound.{InList};
+ghost use Rattle.class_splits.specs.MemberLinesFound.{line_total};
+ghost use Rattle.class_splits.specs.SetLinesFound.{InList};
 ghost use Rattle.class_splits.specs.ClassedPlaces.{chosen_in, Classed};
 ghost use Rattle.round_steps.specs.FirstRound.{StoreTold, FoundOne, Founding};
 ghost use Rattle.round_steps.specs.ChosenMembers.{Rechosen};

@@ -1,8 +1,8 @@
 -- The call for so many rounds is what is made of the set of two starts, within the frame of every call.
 use Rattle.std.specs.Prelude.{◌≡◌, List, ℕ, length}
 use Rattle.std.proofs.Common.{subst}
-use Rattle.sheets.specs.Sheet.{Configuration, Sheet}
-use Rattle.comparison.specs.CallLimits.{Limits}
+use Rattle.call_frame.specs.Sheet.{Configuration, Sheet}
+use Rattle.work_layout.specs.CallLimits.{Limits}
 use Rattle.pair_calls.specs.PairAnswered.{pair_answered}
 use Rattle.after_rounds.specs.AfterRounds.{AfterRounds, after_on, after_bytes, compare_rounds_with}
 use Rattle.after_rounds.specs.AfterRoundsRead.{afters_returned}

@@ -1,9 +1,11 @@
 // The call for so many rounds (document 02, card 13): sheet bytes, two start numbers, a number of rounds, an answer slice and a work slice
 // in; what those rounds say of the starts or one refusal out. Within document 01's limits and within the desk's.
+#![tactic(auto)]
+
 ghost use Rattle.std.specs.Prelude.{length};
 ghost use Rattle.after_rounds.specs.AfterRounds.{compare_rounds_with, compare_rounds, compare_rounds_desk};
-ghost use Rattle.seed_members.specs.Seeds.{CapsFit};
-ghost use Rattle.found_set.specs.FoundSet.{limits_of};
+ghost use Rattle.call_frame.specs.Seeds.{CapsFit};
+ghost use Rattle.call_frame.specs.FoundSet.{limits_of};
 ghost use Rattle.rounds_call.specs.ComparedRounds.{ComparedRounds};
 
 use after_rounds::RoundsAnswer;

@@ -1,2 +1,3 @@
+pub use Rattle.after_rounds.specs.AfterRounds
 pub mod RoundsNumbers
 pub mod RoundsNumberLaws

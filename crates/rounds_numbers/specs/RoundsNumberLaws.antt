@@ -1,15 +1,15 @@
 -- The numbers of the library's answer are those of the outcome; no refusal has the number 0.
 use Rattle.std.specs.Prelude.{◌≡◌, refl, ◌⊎◌, List, [], ◌∷◌, ℕ, ◌≤◌, length}
 use Rattle.std.proofs.Common.{sym, ap, ◌∙◌}
-use Rattle.sheets.specs.Refusals.{large_set}
-use Rattle.sheets.specs.SheetBytes.{ChoiceIs, ChoiceRefused}
-use Rattle.sheet_reading.specs.SheetRead.{choice_reads}
-use Rattle.sheet_laws.specs.RefusalNumbers.{number_low}
-use Rattle.comparison.specs.CallLimits.{Limits, NoGreater}
-use Rattle.comparison.specs.Classes.{class_total}
-use Rattle.comparison.specs.Outcome.{reported, refusal}
-use Rattle.comparison.specs.Promise.{starts_of}
-use Rattle.comparison_laws.specs.LimitLaws.{beside, outcomes_beside, one_choice}
+use Rattle.answer_numbers.specs.Refusals.{large_set}
+use Rattle.answer_numbers.specs.SheetBytes.{ChoiceIs, ChoiceRefused}
+use Rattle.answer_numbers.specs.SheetRead.{choice_reads}
+use Rattle.answer_numbers.specs.RefusalNumbers.{number_low}
+use Rattle.answer_numbers.specs.CallLimits.{Limits, NoGreater}
+use Rattle.answer_numbers.specs.Classes.{class_total}
+use Rattle.answer_numbers.specs.Outcome.{reported, refusal}
+use Rattle.answer_numbers.specs.Promise.{starts_of}
+use Rattle.rounds_theorem.specs.LimitLaws.{beside, outcomes_beside, one_choice}
 use Rattle.answer_numbers.specs.AnswerNumbers.{outcome_number}
 use Rattle.answer_numbers.specs.AnswerNumberLaws.{answered_handed, refuses_above}
 use Rattle.answer_numbers.specs.HandedLaws.{handed_beside}
@@ -20,7 +20,7 @@ use Rattle.after_rounds.specs.AfterRoundsPromise.{after_for, RefusesAfter}
 use Rattle.after_rounds.specs.declared.Reached.{Reached}
 use Rattle.after_rounds.specs.declared.RoundsAnswer.{RoundsAnswer}
 use Rattle.after_rounds.specs.declared.RoundsAnswer.TheVariants.{After, Refused}
-use Rattle.rounds_call.specs.ComparedRounds.{ComparedRounds}
+use Rattle.rounds_theorem.specs.ComparedRounds.{ComparedRounds}
 use Rattle.rounds_theorem.specs.AfterTheorem.{after_decides, after_refuses, after_gives}
 use Rattle.rounds_theorem.specs.TwoLimits.{after_same}
 use Rattle.rounds_numbers.specs.RoundsNumbers.{verdict_number, verdict_code, afters_numbers, HandedRounds, rounds_number, rounds_numbers}

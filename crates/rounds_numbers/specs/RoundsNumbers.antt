@@ -1,8 +1,8 @@
 -- What a caller in C gets of the call for so many rounds: a number that is returned, and five more. Rows for them, as include/hofadiju.h
 -- has them: verdict, classes, members, length, place.
 use Rattle.std.specs.Prelude.{◌≡◌, refl, List, [], ◌∷◌, ℕ, length}
-use Rattle.comparison.specs.Classes.{class_total}
-use Rattle.comparison.specs.Outcome.{reported, refusal}
+use Rattle.answer_numbers.specs.Classes.{class_total}
+use Rattle.answer_numbers.specs.Outcome.{reported, refusal}
 use Rattle.answer_numbers.specs.AnswerNumbers.{outcome_number, HandedBy}
 use Rattle.after_rounds.specs.AfterRounds as spec
 use Rattle.after_rounds.specs.AfterRounds.{SAME, DIFF, OPEN, Afters, after_bytes, after_length}

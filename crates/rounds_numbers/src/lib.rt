@@ -1,4 +1,6 @@
 // The answer of the call for so many rounds as numbers, for callers in C and Rust.
+#![tactic(auto)]
+
 ghost use Rattle.std.specs.Prelude.{◌≡◌};
 ghost use Rattle.rounds_numbers.specs.RoundsNumbers.{verdict_code, rounds_number, rounds_numbers};
 

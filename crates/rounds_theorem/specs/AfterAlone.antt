@@ -1,7 +1,7 @@
 -- The promise fixes the call for so many rounds: of the same input, what two calls that keep it return and leave in both slices is the
 -- same.
 use Rattle.std.specs.Prelude.{◌≡◌, List, ℕ, length}
-use Rattle.comparison.specs.CallLimits.{Limits}
+use Rattle.answers.specs.CallLimits.{Limits}
 use Rattle.promise_laws.specs.PromiseAlone.{promise_alone}
 use Rattle.after_rounds.specs.AfterRoundsPromise.{RoundsPromise}
 use Rattle.after_rounds.specs.declared.RoundsAnswer.{RoundsAnswer}

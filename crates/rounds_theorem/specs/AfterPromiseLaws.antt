@@ -2,19 +2,19 @@
 use Rattle.std.specs.Prelude.{◌≡◌, refl, ◌↔◌, ℕ, ◌≤◌, ◌<◌, length, drop}
 use Rattle.std.proofs.Common.{sym, ap, ap₂, ◌∙◌, subst, arith}
 use mathlib.Core.List.{List, ◌++◌, Memᴰ}
-use Rattle.sheets.specs.Refusals.{short_answer}
-use Rattle.sheets.specs.Sheet.{Sheet, start}
-use Rattle.sheets.specs.SheetBytes.{ChoiceIs}
-use Rattle.sheet_reading.specs.SheetRead.{choice_reads}
-use Rattle.sheet_laws.specs.ReadingLaws.{written_admissible}
-use Rattle.sheet_laws.specs.RefusalNumbers.{number_low}
-use Rattle.comparison.specs.CallLimits.{Limits, NoGreater, limits, desk_limits}
-use Rattle.comparison.specs.Outcome.{cleared}
-use Rattle.comparison.specs.Promise.{PassesLimit, starts_of}
-use Rattle.comparison_laws.specs.RoomLaws.{never_short_answer}
-use Rattle.comparison_laws.specs.LimitLaws.{own_limits, desk_no_greater}
+use Rattle.answers.specs.Refusals.{short_answer}
+use Rattle.answers.specs.Sheet.{Sheet, start}
+use Rattle.answers.specs.SheetBytes.{ChoiceIs}
+use Rattle.answers.specs.SheetRead.{choice_reads}
+use Rattle.call_theorem.specs.ReadingLaws.{written_admissible}
+use Rattle.call_theorem.specs.RefusalNumbers.{number_low}
+use Rattle.answers.specs.CallLimits.{Limits, NoGreater, limits, desk_limits}
+use Rattle.answers.specs.Outcome.{cleared}
+use Rattle.answers.specs.Promise.{PassesLimit, starts_of}
+use Rattle.call_theorem.specs.RoomLaws.{never_short_answer}
+use Rattle.call_theorem.specs.LimitLaws.{own_limits, desk_no_greater}
 use Rattle.promise_laws.specs.PromiseKept.{Variants, promise_kept}
-use Rattle.kept_classes.specs.ClassTotals.{total_in_use}
+use Rattle.call_theorem.specs.ClassTotals.{total_in_use}
 use Rattle.after_rounds.specs.AfterRounds.{AfterRounds, after_bytes, after_length, after_room, compare_rounds_with, compare_rounds, compare_rounds_desk}
 use Rattle.after_rounds.specs.AfterRoundsRead.{reached_of, afters_returned, after_read}
 use Rattle.after_rounds.specs.AfterRoundsPromise.{FaithfulAfter, after_for, RefusesAfter, GivesAfter, ReachedPromise, RoundsPromise}

@@ -4,33 +4,33 @@ use Rattle.std.specs.Prelude.{◌≡◌, Bool, true, false, ℕ, ◌≤◌, leng
 use Rattle.std.proofs.Math.Path.{refl, subst}
 use Rattle.std.proofs.Common.{sym, ap, ◌∙◌, arith}
 use mathlib.Core.List.{List, [], ◌∷◌, Memᴰ}
-use Rattle.list_laws.specs.ListPlaces.{get_d_in}
-use Rattle.sheets.specs.Sheet.{Configuration, Sheet, start}
-use Rattle.sheets.specs.SheetBytes.{ChoiceIs}
-use Rattle.sheets.specs.WellFormed.{OfSheet, WellFormed}
-use Rattle.sheet_reading.specs.SheetRead.{one_sheet}
-use Rattle.sheet_laws.specs.ReadingLaws.{written_admissible}
-use Rattle.refinement.specs.Refinement.{Transitions, Member, Round, Bisimilar, seed}
-use Rattle.refinement_laws.specs.LevelLaws.{bisimulation_level}
-use Rattle.refinement_laws.specs.StableRounds.{Stable, stable_later, stable_bisimilar}
-use Rattle.comparison.specs.CallLimits.{Limits, NoGreater, limits, desk_limits}
-use Rattle.comparison.specs.Classes.{share, class_total}
-use Rattle.comparison.specs.Report as report
-use Rattle.comparison.specs.SheetTransitions.{transitions}
-use Rattle.comparison.specs.Promise.{ResultRound, Faithful, starts_of}
-use Rattle.comparison.specs.Call.{compare_with, compare, compare_desk}
-use Rattle.comparison_laws.specs.SheetMoves.{lawful}
-use Rattle.comparison_laws.specs.Theorem.{both_hold}
-use Rattle.comparison_laws.specs.FaithfulAlone.{members_one, as_many, finer_places, classes_one}
-use Rattle.comparison_laws.specs.LimitLaws.{own_limits, desk_no_greater}
+use Rattle.rounds_call.specs.ListPlaces.{get_d_in}
+use Rattle.answers.specs.Sheet.{Configuration, Sheet, start}
+use Rattle.answers.specs.SheetBytes.{ChoiceIs}
+use Rattle.answers.specs.WellFormed.{OfSheet, WellFormed}
+use Rattle.answers.specs.SheetRead.{one_sheet}
+use Rattle.call_theorem.specs.ReadingLaws.{written_admissible}
+use Rattle.answers.specs.Refinement.{Transitions, Member, Round, Bisimilar, seed}
+use Rattle.call_theorem.specs.LevelLaws.{bisimulation_level}
+use Rattle.call_theorem.specs.StableRounds.{Stable, stable_later, stable_bisimilar}
+use Rattle.answers.specs.CallLimits.{Limits, NoGreater, limits, desk_limits}
+use Rattle.answers.specs.Classes.{share, class_total}
+use Rattle.answers.specs.Report as report
+use Rattle.answers.specs.SheetTransitions.{transitions}
+use Rattle.answers.specs.Promise.{ResultRound, Faithful, starts_of}
+use Rattle.answers.specs.Call.{compare_with, compare, compare_desk}
+use Rattle.call_theorem.specs.SheetMoves.{lawful}
+use Rattle.call_theorem.specs.Theorem.{both_hold}
+use Rattle.call_theorem.specs.FaithfulAlone.{members_one, as_many, finer_places, classes_one}
+use Rattle.call_theorem.specs.LimitLaws.{own_limits, desk_no_greater}
 use Rattle.answers.specs.ReadBack.{read_back_lem}
 use Rattle.answers.specs.declared.Reported.{Reported}
 use Rattle.answers.specs.declared.Answer.TheVariants.{Report}
-use Rattle.compare_call.specs.Compared.{Compared}
-use Rattle.call_promise.specs.CallPromise as call
-use Rattle.call_promise.specs.CallPromise.{report_read, CallPromise}
+use Rattle.call_theorem.specs.Compared.{Compared}
+use Rattle.after_rounds.specs.CallPromise as call
+use Rattle.after_rounds.specs.CallPromise.{report_read, CallPromise}
 use Rattle.call_theorem.specs.CallPromiseLaws.{call_promise}
-use Rattle.kept_classes.specs.ClassTotals.{total_few, total_finer}
+use Rattle.call_theorem.specs.ClassTotals.{total_few, total_finer}
 use Rattle.after_rounds.specs.AfterRounds as spec
 use Rattle.after_rounds.specs.AfterRounds.{AfterRounds, SAME, DIFF, compare_rounds_with, compare_rounds, compare_rounds_desk}
 use Rattle.after_rounds.specs.AfterRoundsRead.{verdict_returned, verdict_read, after_read}

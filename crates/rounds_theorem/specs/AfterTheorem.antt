@@ -4,30 +4,30 @@ use Rattle.std.proofs.Math.Path.{◌≡◌}
 use Rattle.std.specs.Prelude.{refl, ◌↔◌, Bool, true, false, cond, ℕ, suc, ◌≤◌, ◌<◌, length}
 use Rattle.std.proofs.Common.{sym, subst, arith}
 use mathlib.Core.List.{List, [], ◌∷◌, ◌++◌, Memᴰ}
-use Rattle.lists.specs.Lists.{same_numbers}
-use Rattle.list_laws.specs.TestLaws.{true_false}
-use Rattle.list_laws.specs.Members.{same_equal, equal_same}
-use Rattle.list_laws.specs.ListPlaces.{get_d_in}
-use Rattle.sheets.specs.Sheet.{Configuration, Sheet, start}
-use Rattle.sheets.specs.SheetBytes.{ChoiceIs, ChoiceRefused}
-use Rattle.sheets.specs.WellFormed.{OfSheet, WellFormed, Admissible}
-use Rattle.sheet_reading.specs.Reading.{read_choice}
-use Rattle.sheet_reading.specs.SheetRead.{choice_reads}
-use Rattle.refinement.specs.Refinement.{Member, Round}
-use Rattle.comparison.specs.CallLimits.{Limits, NoGreater, limits}
-use Rattle.comparison.specs.Set.{over, explored, fits}
-use Rattle.comparison.specs.Classes.{share}
-use Rattle.comparison.specs.Rounds.{classes}
-use Rattle.comparison.specs.Outcome.{reported, refusal}
-use Rattle.comparison.specs.SheetTransitions.{transitions}
-use Rattle.comparison.specs.Promise.{PassesLimit, starts_of}
-use Rattle.comparison_laws.specs.SetLaws.{fits_unpassed, fits_not_over, explored_seeds, explored_closed}
-use Rattle.comparison_laws.specs.RoundLaws.{share_round}
-use Rattle.comparison_laws.specs.ReportLaws.{members_room}
-use Rattle.comparison_laws.specs.Theorem.{whole, round_listed, equal_stable, stable_equal, both_hold}
-use Rattle.comparison_laws.specs.FrameTheorem.{Decides, frame_decides, frame_refuses, frame_gives}
-use Rattle.answer_laws.specs.FittingLaws.{round_fit}
-use Rattle.answer_laws.specs.ReadBackLaws.{listed_back}
+use Rattle.answers.specs.Lists.{same_numbers}
+use Rattle.rounds_call.specs.TestLaws.{true_false}
+use Rattle.rounds_call.specs.Members.{same_equal, equal_same}
+use Rattle.rounds_call.specs.ListPlaces.{get_d_in}
+use Rattle.answers.specs.Sheet.{Configuration, Sheet, start}
+use Rattle.answers.specs.SheetBytes.{ChoiceIs, ChoiceRefused}
+use Rattle.answers.specs.WellFormed.{OfSheet, WellFormed, Admissible}
+use Rattle.answers.specs.Reading.{read_choice}
+use Rattle.answers.specs.SheetRead.{choice_reads}
+use Rattle.answers.specs.Refinement.{Member, Round}
+use Rattle.answers.specs.CallLimits.{Limits, NoGreater, limits}
+use Rattle.answers.specs.Set.{over, explored, fits}
+use Rattle.answers.specs.Classes.{share}
+use Rattle.answers.specs.Rounds.{classes}
+use Rattle.answers.specs.Outcome.{reported, refusal}
+use Rattle.answers.specs.SheetTransitions.{transitions}
+use Rattle.answers.specs.Promise.{PassesLimit, starts_of}
+use Rattle.call_theorem.specs.SetLaws.{fits_unpassed, fits_not_over, explored_seeds, explored_closed}
+use Rattle.call_theorem.specs.RoundLaws.{share_round}
+use Rattle.call_theorem.specs.ReportLaws.{members_room}
+use Rattle.call_theorem.specs.Theorem.{whole, round_listed, equal_stable, stable_equal, both_hold}
+use Rattle.call_theorem.specs.FrameTheorem.{Decides, frame_decides, frame_refuses, frame_gives}
+use Rattle.call_theorem.specs.FittingLaws.{round_fit}
+use Rattle.call_theorem.specs.ReadBackLaws.{listed_back}
 use Rattle.after_rounds.specs.AfterRounds.{Verdict, SAME, DIFF, OPEN, AfterRounds, equals_next, verdict_after, after_on, after_bytes, after_length, after_room, compare_rounds_with}
 use Rattle.after_rounds.specs.AfterRoundsRead.{verdict_returned, reached_of, verdict_read, after_read}
 use Rattle.after_rounds.specs.AfterRoundsPromise.{ToldBy, NeverTold, NonePart, FaithfulAfter, after_for, RefusesAfter, GivesAfter}

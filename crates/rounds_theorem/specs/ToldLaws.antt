@@ -2,14 +2,14 @@
 -- none of them.
 use Rattle.std.specs.Prelude.{◌↔◌, List, ℕ, suc, ◌≤◌}
 use Rattle.std.proofs.Common.{arith}
-use Rattle.sheets.specs.Sheet.{Configuration, Sheet}
-use Rattle.sheets.specs.WellFormed.{WellFormed}
-use Rattle.refinement.specs.Refinement.{Transitions, Member, Round}
-use Rattle.refinement_laws.specs.RoundLevels.{round_dec, round_level, always_together}
-use Rattle.refinement_laws.specs.StableRounds.{Stable, stable_always}
-use Rattle.comparison.specs.SheetTransitions.{transitions}
-use Rattle.comparison_laws.specs.SheetMoves.{lawful}
-use Rattle.refinement_laws.specs.EarlierRounds.{round_earlier}
+use Rattle.answers.specs.Sheet.{Configuration, Sheet}
+use Rattle.answers.specs.WellFormed.{WellFormed}
+use Rattle.answers.specs.Refinement.{Transitions, Member, Round}
+use Rattle.call_theorem.specs.RoundLevels.{round_dec, round_level, always_together}
+use Rattle.call_theorem.specs.StableRounds.{Stable, stable_always}
+use Rattle.answers.specs.SheetTransitions.{transitions}
+use Rattle.call_theorem.specs.SheetMoves.{lawful}
+use Rattle.call_theorem.specs.EarlierRounds.{round_earlier}
 use Rattle.after_rounds.specs.AfterRoundsPromise.{ToldBy, NeverTold, NonePart}
 
 -- what is told by so many moves is told by more

@@ -2,11 +2,11 @@
 use Rattle.std.specs.Prelude.{◌≡◌, refl, List, ◌++◌, ℕ, length, take, drop}
 use Rattle.std.proofs.Common.{sym, ap, ◌∙◌}
 use Rattle.std.proofs.Math.Seq.{take-append_seam}
-use Rattle.sheets.specs.Sheet.{Configuration, Sheet, start}
-use Rattle.sheets.specs.SheetBytes.{ChoiceIs, ChoiceRefused}
-use Rattle.comparison.specs.CallLimits.{Limits, NoGreater, limits, desk_limits}
-use Rattle.comparison.specs.Promise.{PassesLimit, starts_of}
-use Rattle.comparison_laws.specs.LimitLaws.{desk_no_greater, explored_same, gives_same, one_choice}
+use Rattle.answers.specs.Sheet.{Configuration, Sheet, start}
+use Rattle.answers.specs.SheetBytes.{ChoiceIs, ChoiceRefused}
+use Rattle.answers.specs.CallLimits.{Limits, NoGreater, limits, desk_limits}
+use Rattle.answers.specs.Promise.{PassesLimit, starts_of}
+use Rattle.call_theorem.specs.LimitLaws.{desk_no_greater, explored_same, gives_same, one_choice}
 use Rattle.promise_laws.specs.PromiseLower.{lower_kept}
 use Rattle.after_rounds.specs.AfterRounds.{AfterRounds, after_on, after_bytes, after_length, compare_rounds, compare_rounds_desk}
 use Rattle.after_rounds.specs.AfterRoundsRead.{reached_of, after_read}

@@ -1,15 +1,15 @@
 -- The loop over the rules: i of n are in memory, and p is the place of the next.
 use Rattle.std.specs.Prelude.{◌≡◌, List, [], ℕ, ◌+◌, ◌-◌, ◌*◌, ◌≤◌, ◌<◌, length, replicate}
 use Rattle.std.proofs.Common.{sym, ap, ◌∙◌, arith}
-use Rattle.list_laws.specs.Tabulate.{tabulate_none}
-use Rattle.stores.specs.Stores.{Rule}
-use Rattle.sheets.specs.SheetLimits.{max_rules}
-use Rattle.sheets.specs.Refusals.{many_rules}
-use Rattle.sheet_reading.specs.Reading.{Reading, got, count_at, rule_at, rules_at, records_from}
-use Rattle.sheet_laws.specs.RecordLaws.{records_next}
-use Rattle.sheet_laws.specs.StoredRecords.{read_or, stored_from}
-use Rattle.set_closure.specs.RuleTable.{rule_in, rules_in}
-use Rattle.set_closure.specs.RuleTableLaws.{put_rule, rules_put}
+use Rattle.sheet_types.specs.Tabulate.{tabulate_none}
+use Rattle.sheet_fields.specs.Stores.{Rule}
+use Rattle.sheet_types.specs.SheetLimits.{max_rules}
+use Rattle.sheet_types.specs.Refusals.{many_rules}
+use Rattle.sheet_types.specs.Reading.{Reading, got, count_at, rule_at, rules_at, records_from}
+use Rattle.sheet_fields.specs.RecordLaws.{records_next}
+use Rattle.sheet_fields.specs.StoredRecords.{read_or, stored_from}
+use Rattle.sheet_types.specs.RuleTable.{rule_in, rules_in}
+use Rattle.sheet_types.specs.RuleTableLaws.{put_rule, rules_put}
 use Rattle.sheet_types.specs.HeldSheet.{rules_read}
 use Rattle.sheet_types.specs.declared.RulesRead.{RulesRead}
 

@@ -1,6 +1,8 @@
 // The rules of a sheet.
+#![tactic(auto)]
+
 ghost use Rattle.std.specs.Prelude.{◌≤◌, length};
-ghost use Rattle.sheets.specs.SheetLimits.{max_facts, max_rules};
+ghost use Rattle.sheet_types.specs.SheetLimits.{max_facts, max_rules};
 ghost use Rattle.rule_reader.specs.RuleLoop.{RulesFrom, RulesFound};
 
 use sheet_types::{RulesRead, Section, Sheet};

@@ -5,15 +5,15 @@ use mathlib.Core.List.Memᴰ
 use mathlib.Core.List.{List, [], ◌∷◌, Memᴰ}
 use Rattle.std.specs.Int.Bits.{bit_and, bit_or}
 use Rattle.std.proofs.lemmas.Nat.{or_lt}
-use Rattle.list_laws.specs.AscendingLaws.{number_order, ascends_unique}
-use Rattle.stores.specs.FactSets.{digit, Within}
-use Rattle.stores.specs.FactsOutside.{outside}
-use Rattle.stores.specs.Stores.{Rule, Closed, conclusions, closure, join, least_store}
-use Rattle.store_laws.specs.FactSetLaws.{digit_and, digit_or, zero_digit, within_refl, within_trans, within_or_left, within_or_right, or_least, within_le}
-use Rattle.store_laws.specs.OutsideLaws.{or_outside, outside_apart, outside_within}
-use Rattle.store_laws.specs.StoreLaws.{includes_within, within_includes, closure_includes, closure_least, closure_lt, closure_constraint, join_left, join_right, join_closed, join_least, least_within}
-use Rattle.sheets.specs.Sheet.{Sheet}
-use Rattle.moves.specs.Moves.{makes_true, labels}
+use Rattle.move_laws.specs.AscendingLaws.{number_order, ascends_unique}
+use Rattle.move_laws.specs.FactSets.{digit, Within}
+use Rattle.move_laws.specs.FactsOutside.{outside}
+use Rattle.move_laws.specs.Stores.{Rule, Closed, conclusions, closure, join, least_store}
+use Rattle.move_laws.specs.FactSetLaws.{digit_and, digit_or, zero_digit, within_refl, within_trans, within_or_left, within_or_right, or_least, within_le}
+use Rattle.move_laws.specs.OutsideLaws.{or_outside, outside_apart, outside_within}
+use Rattle.move_laws.specs.StoreLaws.{includes_within, within_includes, closure_includes, closure_least, closure_lt, closure_constraint, join_left, join_right, join_closed, join_least, least_within}
+use Rattle.move_laws.specs.Sheet.{Sheet}
+use Rattle.move_laws.specs.Moves.{makes_true, labels}
 use Rattle.move_laws.specs.LabelLaws.{distinct_one, label_constraint, label_makes_true, label_below, label_minimal, labels_distinct, labels_ascend}
 
 -- ---- what rules conclude

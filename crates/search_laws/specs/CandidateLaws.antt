@@ -1,17 +1,17 @@
 -- The order in which sets come up: every set of n facts once, a set after all that it includes.
 use Rattle.std.specs.Prelude.{◌≡◌, refl, Bool, true, false, cond, ◌&&◌, ◌||◌, ℕ, zero, suc, ◌+◌, ◌-◌, ◌^◌, ◌≤◌, ◌<◌, length, eqb, ltb}
-use Rattle.std.proofs.Common.{sym, ap, ◌∙◌, subst, ⊎_elim, eqb-true, eq_eqb, ltb-true, ltb-false, lt-ltb}
+use Rattle.std.proofs.Common.{sym, ap, ◌∙◌, subst, ⊎_elim, eqb-true, eq-eqb, ltb-true, ltb-false, lt-ltb}
 use mathlib.Core.List.Memᴰ
 use mathlib.Core.List.{List, [], ◌∷◌, ◌++◌, append-nil, append_assoc, Memᴰ}
 use native.Mathlib.Omega.{arith}
-use Rattle.lists.specs.Lists.{select, concat_map, Heads, Ascends, none_left, then_rest, Distinct}
-use Rattle.list_laws.specs.TestLaws.{Tested, passes, fails, tested, true_false, and_intro, and_left, and_right, or_left, or_right, or_false, neither_below}
-use Rattle.list_laws.specs.Members.{mem_select, select_mem, mem_concat_map, concat_map_mem}
-use Rattle.list_laws.specs.AscendingLaws.{Order}
-use Rattle.list_laws.specs.Counting.{distinct_length, ascends_distinct}
-use Rattle.stores.specs.FactSets.{Within}
-use Rattle.store_laws.specs.FactSetLaws.{within_le}
-use Rattle.moves.specs.Moves.{count_up}
+use Rattle.move_laws.specs.Lists.{select, concat_map, Heads, Ascends, none_left, then_rest, Distinct}
+use Rattle.move_laws.specs.TestLaws.{Tested, passes, fails, tested, true_false, and_intro, and_left, and_right, or_left, or_right, or_false, neither_below}
+use Rattle.move_laws.specs.Members.{mem_select, select_mem, mem_concat_map, concat_map_mem}
+use Rattle.move_laws.specs.AscendingLaws.{Order}
+use Rattle.move_laws.specs.Counting.{distinct_length, ascends_distinct}
+use Rattle.move_laws.specs.FactSets.{Within}
+use Rattle.move_laws.specs.FactSetLaws.{within_le}
+use Rattle.move_laws.specs.Moves.{count_up}
 use Rattle.move_laws.specs.LabelLaws.{count_up_mem, mem_count_up, mem_count_up_from, count_up_length, count_up_distinct, distinct_select}
 use Rattle.ordered_search.specs.OrderedSearch.{fact_count, comes_first, sets_of_size, candidates_below, candidates}
 use Rattle.search_laws.specs.SizeLaws.{count_below, count_most}
@@ -54,7 +54,7 @@ module _ (n : ℕ) where
 
   -- of two sets with as many facts the one with the lower number
   lower_first : (s t : ℕ) → fact_count n s ≡ fact_count n t → s < t → comes_first n s t ≡ true
-  lower_first s t e h = or_right (ltb (fact_count n s) (fact_count n t)) (and_intro (eq_eqb _ _ e) (lt-ltb s t h))
+  lower_first s t e h = or_right (ltb (fact_count n s) (fact_count n t)) (and_intro (eq-eqb _ _ e) (lt-ltb s t h))
 
   -- a set that comes up first has no more facts
   first_count : (s t : ℕ) → comes_first n s t ≡ true → fact_count n s ≤ fact_count n t
@@ -101,7 +101,7 @@ module _ (n : ℕ) where
   -- each is in their list
   pub size_mem : (k s : ℕ) → s < 2 ^ n → fact_count n s ≡ k → Memᴰ s (sets_of_size n k)
   size_mem k s h e =
-      select_mem (λ s. eqb (fact_count n s) k) (count_up 0 (2 ^ n)) (count_up_mem (2 ^ n) 0 s (omega arith) (omega arith)) (eq_eqb _ _ e)
+      select_mem (λ s. eqb (fact_count n s) k) (count_up 0 (2 ^ n)) (count_up_mem (2 ^ n) 0 s (omega arith) (omega arith)) (eq-eqb _ _ e)
 
   -- and no other
   pub mem_size : (k : ℕ) {s : ℕ} → Memᴰ s (sets_of_size n k) → (s < 2 ^ n) × (fact_count n s ≡ k)

@@ -2,7 +2,7 @@
 -- depends on the labels only.
 use Rattle.std.specs.Prelude.{◌≡◌, Bool, ◌&&◌, ◌||◌, eqb}
 use Rattle.std.proofs.Math.Path.{refl, sym, ap, subst}
-use Rattle.std.proofs.Common.{◌∙◌, ⊎_elim, eqb-true, eq_eqb}
+use Rattle.std.proofs.Common.{◌∙◌, ⊎_elim, eqb-true, eq-eqb}
 use Rattle.std.proofs.Math.Bool.{true, false, cond, not}
 use mathlib.Core.List.Memᴰ
 use mathlib.Core.List.{List, [], ◌∷◌, ◌++◌, append-nil, append_assoc, Memᴰ}
@@ -10,18 +10,18 @@ use Prim.Native.Nat.{ℕ, suc, ◌+◌, ◌-◌, ◌^◌, ◌≤◌, ◌<◌}
 use native.Mathlib.Omega.{arith}
 use Rattle.std.proofs.Math.ListN.{length}
 use Rattle.std.proofs.lemmas.Bool.{eqb-false, not-true, not-false}
-use Rattle.lists.specs.Lists.{select, any, concat_map, arrange, Distinct, no_elements, one_more}
-use Rattle.list_laws.specs.TestLaws.{Tested, passes, fails, tested, true_false, and_intro, and_left, and_right, not_passes, same_test}
-use Rattle.list_laws.specs.Members.{mem_select, select_mem, any_yes, any_mem, mem_concat_map}
-use Rattle.list_laws.specs.AscendingLaws.{number_order, ascends_unique, arrange_ascends, arrange_keeps, arrange_only}
-use Rattle.list_laws.specs.Counting.{distinct_append}
-use Rattle.list_laws.specs.EnteringLaws.{distinct_apart}
-use Rattle.stores.specs.FactSets.{Within}
-use Rattle.stores.specs.Stores.{Constraint, join, includes, strictly_below}
-use Rattle.store_laws.specs.FactSetLaws.{within_refl}
-use Rattle.store_laws.specs.StoreLaws.{includes_within, within_includes, below_within, within_below, closure_same, closed_by_closure}
-use Rattle.sheets.specs.Sheet.{Sheet}
-use Rattle.moves.specs.Moves.{count_up, is_closed, makes_true, labels}
+use Rattle.move_laws.specs.Lists.{select, any, concat_map, arrange, Distinct, no_elements, one_more}
+use Rattle.move_laws.specs.TestLaws.{Tested, passes, fails, tested, true_false, and_intro, and_left, and_right, not_passes, same_test}
+use Rattle.move_laws.specs.Members.{mem_select, select_mem, any_yes, any_mem, mem_concat_map}
+use Rattle.move_laws.specs.AscendingLaws.{number_order, ascends_unique, arrange_ascends, arrange_keeps, arrange_only}
+use Rattle.move_laws.specs.Counting.{distinct_append}
+use Rattle.move_laws.specs.EnteringLaws.{distinct_apart}
+use Rattle.move_laws.specs.FactSets.{Within}
+use Rattle.move_laws.specs.Stores.{Constraint, join, includes, strictly_below}
+use Rattle.move_laws.specs.FactSetLaws.{within_refl}
+use Rattle.move_laws.specs.StoreLaws.{includes_within, within_includes, below_within, within_below, closure_same, closed_by_closure}
+use Rattle.move_laws.specs.Sheet.{Sheet}
+use Rattle.move_laws.specs.Moves.{count_up, is_closed, makes_true, labels}
 use Rattle.move_laws.specs.LabelLaws.{count_up_mem, count_up_length, count_up_distinct, distinct_select, label_constraint, label_makes_true, label_below, label_minimal, labels_ascend, labels_distinct}
 use Rattle.ordered_search.specs.OrderedSearch.{fact_count, sets_of_size, candidates_below, candidates, Search, begun, is_covered, qualifies, try_next, search_over, search_below, label_search}
 use Rattle.search_laws.specs.SizeLaws.{count_same}
@@ -74,7 +74,7 @@ module _ (sheet : Sheet) (d c : ℕ) where
 
   label_qualifies : {a : ℕ} → Memᴰ a (labels sheet d c) → qualifies sheet d c a ≡ true
   label_qualifies {a} m =
-      and_intro (eq_eqb _ _ (closure_same sheet.rules a (label_constraint sheet d c m).closed)) (within_includes (label_makes_true sheet d c m))
+      and_intro (eq-eqb _ _ (closure_same sheet.rules a (label_constraint sheet d c m).closed)) (within_includes (label_makes_true sheet d c m))
 
   label_none_below : {a : ℕ} → Memᴰ a (labels sheet d c) → has_below a ≡ false
   label_none_below {a} m = go (tested (has_below a))

@@ -2,8 +2,8 @@
 use Rattle.std.specs.Prelude.{◌≡◌, refl, Bool, true, false, ℕ, zero, suc, ◌%◌, ◌^◌, ◌≤◌, ◌<◌, ltb}
 use Rattle.std.proofs.Common.{ap, lt_of_lt_of_le, arith, pow_mono, ltb-true, ltb-false}
 use Rattle.std.proofs.Math.Nat.{div-eq_of_lt}
-use Rattle.stores.specs.FactSets.{digit, Within}
-use Rattle.store_laws.specs.FactSetLaws.{set_ext}
+use Rattle.move_laws.specs.FactSets.{digit, Within}
+use Rattle.move_laws.specs.FactSetLaws.{set_ext}
 use Rattle.ordered_search.specs.OrderedSearch.{fact_count}
 
 digit_most : (s i : ℕ) → digit s i ≤ 1

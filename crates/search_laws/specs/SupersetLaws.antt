@@ -1,16 +1,16 @@
 -- How many sets of the first n facts include a set: 2 to the power of how many of those facts the set lacks.
 use Rattle.std.specs.Prelude.{◌≡◌, refl, Bool, true, false, cond, ◌&&◌, List, [], ◌∷◌, ◌++◌, map, ℕ, zero, suc, ◌+◌, ◌-◌, ◌*◌, ◌/◌, ◌%◌, ◌^◌, ◌≤◌, ◌<◌, length}
-use Rattle.std.proofs.Common.{sym, ap, ap₂, ◌∙◌, zero-add, add-zero, suc-add, mod-lt, mod-eq_of_lt, arith, pow_pos, length-append, eqb-true, eq_eqb}
+use Rattle.std.proofs.Common.{sym, ap, ap₂, ◌∙◌, zero-add, add-zero, suc-add, mod-lt, mod-eq_of_lt, arith, pow_pos, length-append, eqb-true, eq-eqb}
 use Rattle.std.proofs.Math.Pow.{high, low}
 use Rattle.std.proofs.lemmas.Nat.{mod-pow-add, and_block}
 use Rattle.std.specs.Int.Bits.{bit_and, and_lt}
 use Rattle.std.proofs.lemmas.List.{length-map}
-use Rattle.list_laws.specs.TestLaws.{and_left, and_right, and_intro, same_test}
-use Rattle.list_laws.specs.ImageLaws.{select_image}
-use Rattle.lists.specs.Lists.{select}
-use Rattle.stores.specs.FactSets.{digit}
-use Rattle.stores.specs.Stores.{includes}
-use Rattle.moves.specs.Moves.{count_up}
+use Rattle.move_laws.specs.TestLaws.{and_left, and_right, and_intro, same_test}
+use Rattle.move_laws.specs.ImageLaws.{select_image}
+use Rattle.move_laws.specs.Lists.{select}
+use Rattle.move_laws.specs.FactSets.{digit}
+use Rattle.move_laws.specs.Stores.{includes}
+use Rattle.move_laws.specs.Moves.{count_up}
 use Rattle.move_laws.specs.LabelLaws.{mem_count_up}
 use Rattle.search_laws.specs.SizeLaws.{count_most}
 use Rattle.ordered_search.specs.OrderedSearch.{fact_count}
@@ -50,12 +50,12 @@ includes_block n b e s r h k =
     (λ q.
     let whole : bit_and e b * 2 ^ n + bit_and r s ≡ e * 2 ^ n + r = sym both ∙ eqb-true _ _ q in
     and_intro
-    (eq_eqb _ _ (sym (high (bit_and e b) n less) ∙ ap (λ (x : ℕ). x / 2 ^ n) whole ∙ high e n k))
-    (eq_eqb _ _ (sym (low (bit_and e b) n less) ∙ ap (λ (x : ℕ). x % 2 ^ n) whole ∙ low e n k)))
+    (eq-eqb _ _ (sym (high (bit_and e b) n less) ∙ ap (λ (x : ℕ). x / 2 ^ n) whole ∙ high e n k))
+    (eq-eqb _ _ (sym (low (bit_and e b) n less) ∙ ap (λ (x : ℕ). x % 2 ^ n) whole ∙ low e n k)))
     (λ q.
     let upper = eqb-true _ _ (and_left (includes b e) (includes s r) q) in
     let lower = eqb-true _ _ (and_right (includes b e) (includes s r) q) in
-    eq_eqb _ _ (both ∙ ap₂ (λ (x y : ℕ). x * 2 ^ n + y) upper lower))
+    eq-eqb _ _ (both ∙ ap₂ (λ (x y : ℕ). x * 2 ^ n + y) upper lower))
   where
     both : bit_and (e * 2 ^ n + r) (b * 2 ^ n + s) ≡ bit_and e b * 2 ^ n + bit_and r s
     both = and_block n e b r s k h

@@ -1,2 +1,14 @@
+pub use Rattle.work_layout.specs.CallLimits
+pub use Rattle.set_growth.specs.FrameTheorem
+pub use Rattle.set_growth.specs.LimitLaws
+pub use Rattle.work_layout.specs.Promise
+pub use Rattle.work_layout.specs.Refinement
+pub use Rattle.work_layout.specs.Set
+pub use Rattle.set_growth.specs.SetGrowth
+pub use Rattle.set_growth.specs.SetLaws
+pub use Rattle.work_layout.specs.SetLayout
+pub use Rattle.set_growth.specs.SheetMoves
+pub use Rattle.work_layout.specs.SheetTransitions
+pub use Rattle.set_growth.specs.StableRounds
 pub mod Seeds
 pub mod SeedLaws

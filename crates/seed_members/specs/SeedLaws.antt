@@ -1,19 +1,19 @@
 -- Seeds entered one after another.
 use Rattle.std.specs.Prelude.{◌≡◌, refl, ◌⊎◌, Bool, true, false, ℕ, zero, suc, ◌+◌, ◌≤◌, ◌<◌, length, get_or, set, ltb}
-use Rattle.std.proofs.Common.{sym, ap, ◌∙◌, subst, inr, ⊎_elim, arith, get_or-set_same, get_or_set_other, ltb-true, ltb-false}
+use Rattle.std.proofs.Common.{sym, ap, ◌∙◌, subst, inr, ⊎_elim, arith, get_or-set_same, get_or-set_other, ltb-true, ltb-false}
 use mathlib.Core.List.Memᴰ
 use mathlib.Core.List.{List, [], ◌∷◌, ◌++◌, Memᴰ}
-use Rattle.lists.specs.Lists.{no_elements}
-use Rattle.list_laws.specs.Frames.{SameOutside, outside_same, outside_again, outside_set}
-use Rattle.list_laws.specs.Tabulate.{tabulate_none, tabulate_next}
-use Rattle.list_laws.specs.TabulateLaws.{tabulate_mem, mem_tabulate}
-use Rattle.sheets.specs.Sheet.{Configuration}
-use Rattle.refinement.specs.Refinement.{seed}
-use Rattle.comparison.specs.Promise.{PassesLimit}
+use Rattle.move_entry.specs.Lists.{no_elements}
+use Rattle.work_layout.specs.Frames.{SameOutside, outside_same, outside_again, outside_set}
+use Rattle.collected_moves.specs.Tabulate.{tabulate_none, tabulate_next}
+use Rattle.collected_moves.specs.TabulateLaws.{tabulate_mem, mem_tabulate}
+use Rattle.sheet_types.specs.Sheet.{Configuration}
+use Rattle.work_layout.specs.Refinement.{seed}
+use Rattle.work_layout.specs.Promise.{PassesLimit}
 use Rattle.sheet_types.specs.declared.Configuration as held
 use Rattle.sheet_types.specs.HeldSheet.{configuration, no_configuration, starts_in}
-use Rattle.member_table.specs.MemberTable.{member_in}
-use Rattle.member_table.specs.TableInPart.{part_none}
+use Rattle.collected_moves.specs.MemberTable.{member_in}
+use Rattle.move_entry.specs.TableInPart.{part_none}
 use Rattle.collected_moves.specs.declared.Caps.{Caps}
 use Rattle.collected_moves.specs.declared.Running.{Running}
 use Rattle.collected_moves.specs.declared.Noted.{Noted}
@@ -44,7 +44,7 @@ cleared_next v w i a h k l =
     go : (j : ℕ) → spans_at ≤ j → j < i + 1 → (b : Bool) → ltb j i ≡ b → get_or (set w i 0) j 0 ≡ 0
     go j p q true r =
         let m : j < i = ltb-true j i r in
-        get_or_set_other w i j 0 0 (omega arith) ∙ a.none j p m
+        get_or-set_other w i j 0 0 (omega arith) ∙ a.none j p m
     go j p q false r =
         let m : i ≤ j = ltb-false j i r in
         let e : j ≡ i = omega arith in

@@ -1,9 +1,9 @@
 -- What entering the seeds of a set asks and promises.
 use Rattle.std.specs.Prelude.{◌≡◌, ◌⊎◌, ℕ, ◌+◌, ◌≤◌, ◌<◌, length, get_or}
 use mathlib.Core.List.{List, Memᴰ}
-use Rattle.list_laws.specs.Frames.{SameOutside}
-use Rattle.sheets.specs.Sheet as spec
-use Rattle.comparison.specs.Promise.{PassesLimit}
+use Rattle.work_layout.specs.Frames.{SameOutside}
+use Rattle.sheet_types.specs.Sheet as spec
+use Rattle.work_layout.specs.Promise.{PassesLimit}
 use Rattle.collected_moves.specs.declared.Caps.{Caps}
 use Rattle.collected_moves.specs.declared.Running.{Running}
 use Rattle.collected_moves.specs.declared.Noted.{Noted}
@@ -11,7 +11,7 @@ use Rattle.collected_moves.specs.declared.Noted.TheVariants as noted
 use Rattle.collected_moves.specs.CollectedMoves.{Collecting, EnteredOn, NoRoomFor, members_of}
 use Rattle.set_growth.specs.SetGrowth.{Growth, Sound}
 use Rattle.work_layout.specs.WorkLayout.{table_length, spans_at, moves_at, members_at, member_room, move_room}
-use Rattle.sheets.specs.SheetLimits.{max_threads}
+use Rattle.sheet_types.specs.SheetLimits.{max_threads}
 
 -- there is room for so many members, moves and threads of a member
 abbrev pub CapsFit : Caps → Type 0

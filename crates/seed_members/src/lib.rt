@@ -1,10 +1,12 @@
 // The seeds of a set entered as its first members, none of them explored.
+#![tactic(auto)]
+
 ghost use Rattle.std.specs.Prelude.{ℕ, ◌≤◌, ◌<◌, length, get_or};
 ghost use Rattle.sheet_types.specs.HeldSheet.{configuration, no_configuration, starts_in};
 ghost use Rattle.collected_moves.specs.CollectedMoves.{Collecting};
 ghost use Rattle.seed_members.specs.Seeds.{CapsFit, Cleared, SeedEntered, Seeded};
 ghost use Rattle.work_layout.specs.WorkLayout.{work_end};
-ghost use Rattle.sheets.specs.SheetLimits.{max_starts};
+ghost use Rattle.sheet_types.specs.SheetLimits.{max_starts};
 
 use collected_moves::{Caps, Noted, Running};
 use sheet_types::Configuration;

@@ -1,15 +1,15 @@
 -- The first round that has two members apart, by climbing from the higher of their two classes.
 use Rattle.std.specs.Prelude.{◌≡◌, refl, List, ℕ, zero, suc, ◌+◌, ◌≤◌, ◌<◌, min, max, length}
 use Rattle.std.proofs.Common.{sym, ap, ap₂, ◌∙◌, subst, arith}
-use Rattle.sheets.specs.Sheet.{Configuration, Sheet}
+use Rattle.work_layout.specs.Sheet.{Configuration, Sheet}
 use Rattle.work_layout.specs.SetLayout.{member_at}
-use Rattle.comparison.specs.Classes.{class_of}
-use Rattle.comparison.specs.Rounds.{rounds, apart_in}
-use Rattle.kept_classes.specs.ClassBirths.{apart_from_lem, apart, apart_same, apart_founders, apart_up}
-use Rattle.kept_classes.specs.SetClasses.{present_first}
-use Rattle.kept_classes.specs.ClassPlaces.{places_present}
-use Rattle.kept_classes.specs.RoundLayout.{held_in, held_count_lem, class_held_lem}
-use Rattle.class_splits.specs.ClassedPlaces.{classed_count}
+use Rattle.work_layout.specs.Classes.{class_of}
+use Rattle.work_layout.specs.Rounds.{rounds, apart_in}
+use Rattle.class_rounds.specs.ClassBirths.{apart_from_lem, apart, apart_same, apart_founders, apart_up}
+use Rattle.class_rounds.specs.SetClasses.{present_first}
+use Rattle.class_rounds.specs.ClassPlaces.{places_present}
+use Rattle.class_rounds.specs.RoundLayout.{held_in, held_count_lem, class_held_lem}
+use Rattle.class_rounds.specs.ClassedPlaces.{classed_count}
 use Rattle.class_rounds.specs.RoundAtHand.{nobody}
 use Rattle.class_rounds.specs.RoundsDone.{RoundsHeld}
 use Rattle.work_layout.specs.WorkLayout.{work_end, member_room}

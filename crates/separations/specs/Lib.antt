@@ -1,3 +1,4 @@
+pub use Rattle.class_rounds.specs.StoreLaws
 pub mod ApartClasses
 pub mod NumberedPlaces
 pub mod FirstMembers

@@ -1,11 +1,11 @@
 -- Classes numbered by first member, in place: the places done have their numbers, the others still their classes, and for each
 -- class that was met its number is kept beside.
 use Rattle.std.specs.Prelude.{◌≡◌, refl, ◌⊎◌, true, false, List, ℕ, ◌+◌, ◌≤◌, ◌<◌, length, get_or, set, eqb}
-use Rattle.std.proofs.Common.{sym, ap, ◌∙◌, subst, inl, inr, arith, length-set, get_or-set_same, get_or_set_other, eqb-true}
+use Rattle.std.proofs.Common.{sym, ap, ◌∙◌, subst, inl, inr, arith, length-set, get_or-set_same, get_or-set_other, eqb-true}
 use Rattle.std.proofs.lemmas.Bool.{eqb-false}
-use Rattle.list_laws.specs.TestLaws.{Tested, tested, passes, fails}
-use Rattle.list_laws.specs.Frames.{SameOutside, outside_same, outside_set, outside_again}
-use Rattle.class_splits.specs.ClassedPlaces.{chosen_in, Classed, classed_count}
+use Rattle.work_layout.specs.TestLaws.{Tested, tested, passes, fails}
+use Rattle.work_layout.specs.Frames.{SameOutside, outside_same, outside_set, outside_again}
+use Rattle.class_rounds.specs.ClassedPlaces.{chosen_in, Classed, classed_count}
 use Rattle.work_layout.specs.WorkLayout.{work_end, line_totals_at, classes_at, births_at, chosen_at, member_room}
 use Rattle.work_layout.specs.ClassLayout.{class_in}
 
@@ -180,8 +180,8 @@ module _ (v : List ℕ) (n classes : ℕ) (C : Classed v n classes) (F : FirstCh
 
       others : (j : ℕ) → (j ≡ i → ⊥) → j < member_room → class_in x j ≡ class_in w j
       others j d h =
-          get_or_set_other a (classes_at + i) (classes_at + j) count 0 (λ z. d (omega arith))
-          ∙ get_or_set_other w (line_totals_at + class_in w i) (classes_at + j) count 0 (λ z. omega (arith, numbering_class))
+          get_or-set_other a (classes_at + i) (classes_at + j) count 0 (λ z. d (omega arith))
+          ∙ get_or-set_other w (line_totals_at + class_in w i) (classes_at + j) count 0 (λ z. omega (arith, numbering_class))
 
       -- a class that was met is another one
       met : (j : ℕ) → j < i → class_in v j ≡ class_in w i → ⊥
@@ -189,14 +189,14 @@ module _ (v : List ℕ) (n classes : ℕ) (C : Classed v n classes) (F : FirstCh
 
       kept : (j : ℕ) → j < i → number_in x (class_in v j) ≡ number_in w (class_in v j)
       kept j h =
-          get_or_set_other a (classes_at + i) (line_totals_at + class_in v j) count 0
+          get_or-set_other a (classes_at + i) (line_totals_at + class_in v j) count 0
           (λ z. omega (arith, C.known j (omega arith), classed_count C))
-          ∙ get_or_set_other w (line_totals_at + class_in w i) (line_totals_at + class_in v j) count 0 (λ z. met j h (omega arith))
+          ∙ get_or-set_other w (line_totals_at + class_in w i) (line_totals_at + class_in v j) count 0 (λ z. met j h (omega arith))
 
       mine : number_in x (class_in v i) ≡ count
       mine =
           ap (number_in x) (sym own)
-          ∙ get_or_set_other a (classes_at + i) (line_totals_at + class_in w i) count 0 (λ z. omega (arith, numbering_class))
+          ∙ get_or-set_other a (classes_at + i) (line_totals_at + class_in w i) count 0 (λ z. omega (arith, numbering_class))
           ∙ get_or-set_same w (line_totals_at + class_in w i) count 0 (omega (arith, long_now, numbering_class))
 
       cases : (q : ℕ) → q < count + 1 → Tested (eqb q count) → (q < count) ⊎ (q ≡ count)
@@ -243,7 +243,7 @@ module _ (v : List ℕ) (n classes : ℕ) (C : Classed v n classes) (F : FirstCh
           here = get_or-set_same w (classes_at + i) k 0 (omega (arith, long_now))
 
           others : (j : ℕ) → (j ≡ i → ⊥) → j < member_room → class_in x j ≡ class_in w j
-          others j z m = get_or_set_other w (classes_at + i) (classes_at + j) k 0 (λ e. z (omega arith))
+          others j z m = get_or-set_other w (classes_at + i) (classes_at + j) k 0 (λ e. z (omega arith))
 
           numbers : (c : ℕ) → c < member_room → number_in x c ≡ number_in w c
-          numbers c m = get_or_set_other w (classes_at + i) (line_totals_at + c) k 0 (λ e. omega arith)
+          numbers c m = get_or-set_other w (classes_at + i) (line_totals_at + c) k 0 (λ e. omega arith)

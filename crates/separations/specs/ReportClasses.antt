@@ -1,21 +1,21 @@
 -- Numbers by first member are the classes of the report: they tell the same members apart, and go up by first member.
 use Rattle.std.specs.Prelude.{◌≡◌, ◌↔◌, ◌⊎◌, ℕ, zero, suc, ◌+◌, ◌≤◌, ◌<◌, length, get_or, eqb, ltb}
-use Rattle.std.proofs.Common.{sym, ap, ap₂, ◌∙◌, subst, inl, inr, arith, ext_get_or, eqb-true, eq_eqb, ltb-true, ltb-false}
+use Rattle.std.proofs.Common.{sym, ap, ap₂, ◌∙◌, subst, inl, inr, arith, ext_get_or, eqb-true, eq-eqb, ltb-true, ltb-false}
 use mathlib.Core.List.{List, [], Memᴰ}
-use Rattle.list_laws.specs.TestLaws.{Tested, tested, passes, fails, neither_below}
-use Rattle.list_laws.specs.Frames.{SameOutside, outside_then}
-use Rattle.list_laws.specs.Tabulate.{tabulate_length, tabulate_at}
-use Rattle.list_laws.specs.TabulateLaws.{mem_tabulate, tabulate_mem}
-use Rattle.sheets.specs.Sheet.{Configuration, Sheet}
+use Rattle.work_layout.specs.TestLaws.{Tested, tested, passes, fails, neither_below}
+use Rattle.work_layout.specs.Frames.{SameOutside, outside_then}
+use Rattle.work_layout.specs.Tabulate.{tabulate_length, tabulate_at}
+use Rattle.work_layout.specs.TabulateLaws.{mem_tabulate, tabulate_mem}
+use Rattle.work_layout.specs.Sheet.{Configuration, Sheet}
 use Rattle.work_layout.specs.SetLayout.{member_at, SetHeld}
-use Rattle.comparison.specs.Classes.{share, class_total}
-use Rattle.comparison.specs.Rounds.{classes, rounds, result_of}
-use Rattle.comparison_laws.specs.RoundLaws.{share_round}
-use Rattle.comparison_laws.specs.ResultLaws.{classes_by_first, classes_length, rounds_at}
-use Rattle.kept_classes.specs.ClassTotals.{total_is, total_finer}
-use Rattle.kept_classes.specs.ClassPlaces.{places_sharing}
-use Rattle.kept_classes.specs.RoundLayout.{same_set_high, held_same, held_in, held_count_lem, held_place, share_held}
-use Rattle.class_splits.specs.ClassedPlaces.{chosen_in, Classed}
+use Rattle.work_layout.specs.Classes.{share, class_total}
+use Rattle.work_layout.specs.Rounds.{classes, rounds, result_of}
+use Rattle.class_rounds.specs.RoundLaws.{share_round}
+use Rattle.class_rounds.specs.ResultLaws.{classes_by_first, classes_length, rounds_at}
+use Rattle.class_rounds.specs.ClassTotals.{total_is, total_finer}
+use Rattle.class_rounds.specs.ClassPlaces.{places_sharing}
+use Rattle.class_rounds.specs.RoundLayout.{same_set_high, held_same, held_in, held_count_lem, held_place, share_held}
+use Rattle.class_rounds.specs.ClassedPlaces.{chosen_in, Classed}
 use Rattle.class_rounds.specs.RoundAtHand.{nobody}
 use Rattle.class_rounds.specs.RoundsDone.{RoundsHeld, rounds_held_same}
 use Rattle.separations.specs.NumberedPlaces.{Numbering}
@@ -109,8 +109,8 @@ module _ {sheet : Sheet} {set : List Configuration} {v : List ℕ} {n m r count 
       let pj = held_place sheet set v n m s H.ready.ascends j lj in
       let t : share set (classes sheet set r) p q ≡ eqb (get_or (classes sheet set r) i 0) (get_or (classes sheet set r) j 0) =
       ap₂ (λ (x y : ℕ). eqb (get_or (classes sheet set r) x 0) (get_or (classes sheet set r) y 0)) pi pj in (
-        (λ x. eqb-true _ _ (sym t ∙ b.1 (a.to_round p q mp mq (e ∙ eq_eqb _ _ x)))),
-        (λ x. eqb-true _ _ (sym e ∙ a.from_round p q mp mq (b.0 (t ∙ eq_eqb _ _ x)))),
+        (λ x. eqb-true _ _ (sym t ∙ b.1 (a.to_round p q mp mq (e ∙ eq-eqb _ _ x)))),
+        (λ x. eqb-true _ _ (sym e ∙ a.from_round p q mp mq (b.0 (t ∙ eq-eqb _ _ x)))),
       )
 
   -- there are as many as are kept

@@ -1,6 +1,8 @@
 // When two members are separated: by the births of their classes. The numbers of classes by first member.
+#![tactic(auto)]
+
 ghost use Rattle.std.specs.Prelude.{◌≡◌, ℕ, ◌≤◌, ◌<◌, length};
-ghost use Rattle.kept_classes.specs.ClassBirths.{apart};
+ghost use Rattle.class_rounds.specs.ClassBirths.{apart};
 ghost use Rattle.separations.specs.ApartClasses.{Falls};
 ghost use Rattle.separations.specs.NumberedPlaces.{NumberOne};
 ghost use Rattle.separations.specs.FirstMembers.{FirstsFound};

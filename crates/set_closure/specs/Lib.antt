@@ -1,3 +1,14 @@
+pub use Rattle.store_laws.specs.FactSetLaws
+pub use Rattle.store_laws.specs.FactSets
+pub use Rattle.store_laws.specs.Frames
+pub use Rattle.sheets.specs.Lists
+pub use Rattle.store_laws.specs.OutsideLaws
+pub use Rattle.sheets.specs.SheetBytes
+pub use Rattle.sheets.specs.SheetLimits
+pub use Rattle.store_laws.specs.StoreLaws
+pub use Rattle.store_laws.specs.Stores
+pub use Rattle.store_laws.specs.Tabulate
+pub use Rattle.store_laws.specs.TabulateLaws
 pub mod RuleTable
 pub mod PassLaws
 pub mod RuleTableLaws

@@ -1,8 +1,8 @@
 -- A pass over rules in memory, as a loop makes it: no rule yet, one rule more, and all of them.
 use Rattle.std.specs.Prelude.{◌≡◌, List, ℕ, ◌+◌, ◌≤◌, ◌<◌}
 use Rattle.std.proofs.Common.{sym, ap, ◌∙◌, subst, arith}
-use Rattle.list_laws.specs.Tabulate.{tabulate_none, tabulate_next}
-use Rattle.stores.specs.Stores.{Rule, fire, pass}
+use Rattle.store_laws.specs.Tabulate.{tabulate_none, tabulate_next}
+use Rattle.sheets.specs.Stores.{Rule, fire, pass}
 use Rattle.store_laws.specs.StoreLaws.{pass_none, pass_snoc}
 use Rattle.set_closure.specs.RuleTable.{rule_in, rules_in}
 

@@ -1,7 +1,7 @@
 -- How rules stand in memory: rule i has its premise at 2 i and its conclusion after it.
 use Rattle.std.specs.Prelude.{List, ℕ, ◌+◌, ◌*◌, get_or}
-use Rattle.stores.specs.Stores.{Rule}
-use Rattle.list_laws.specs.Tabulate.{tabulate}
+use Rattle.sheets.specs.Stores.{Rule}
+use Rattle.store_laws.specs.Tabulate.{tabulate}
 
 abbrev pub rule_in : List ℕ → ℕ → Rule
 rule_in sets i = record { premise = get_or sets (2 * i) 0; conclusion = get_or sets (2 * i + 1) 0 }

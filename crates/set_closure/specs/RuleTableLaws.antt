@@ -1,8 +1,8 @@
 -- One rule more in memory.
 use Rattle.std.specs.Prelude.{◌≡◌, List, [], ◌∷◌, ◌++◌, ℕ, ◌+◌, ◌*◌, ◌≤◌, ◌<◌, length, get_or, set}
-use Rattle.std.proofs.Common.{ap₂, ◌∙◌, arith, length-set, get_or-set_same, get_or_set_other}
-use Rattle.list_laws.specs.Tabulate.{tabulate_next, tabulate_same}
-use Rattle.stores.specs.Stores.{Rule}
+use Rattle.std.proofs.Common.{ap₂, ◌∙◌, arith, length-set, get_or-set_same, get_or-set_other}
+use Rattle.store_laws.specs.Tabulate.{tabulate_next, tabulate_same}
+use Rattle.sheets.specs.Stores.{Rule}
 use Rattle.set_closure.specs.RuleTable.{rule_in, rules_in}
 
 -- the sets with rule i put in its place
@@ -14,16 +14,16 @@ module _ (sets : List ℕ) (i premise conclusion : ℕ) where
   put_rule_other j h =
       let first = set sets (2 * i) premise in
       let p : get_or (put_rule sets i premise conclusion) (2 * j) 0 ≡ get_or sets (2 * j) 0 =
-      get_or_set_other first (2 * i + 1) (2 * j) conclusion 0 (omega arith) ∙ get_or_set_other sets (2 * i) (2 * j) premise 0 (omega arith) in
+      get_or-set_other first (2 * i + 1) (2 * j) conclusion 0 (omega arith) ∙ get_or-set_other sets (2 * i) (2 * j) premise 0 (omega arith) in
       let c : get_or (put_rule sets i premise conclusion) (2 * j + 1) 0 ≡ get_or sets (2 * j + 1) 0 =
-      get_or_set_other first (2 * i + 1) (2 * j + 1) conclusion 0 (omega arith) ∙ get_or_set_other sets (2 * i) (2 * j + 1) premise 0 (omega arith) in
+      get_or-set_other first (2 * i + 1) (2 * j + 1) conclusion 0 (omega arith) ∙ get_or-set_other sets (2 * i) (2 * j + 1) premise 0 (omega arith) in
       cc
 
   put_rule_same : 2 * i + 2 ≤ length sets → rule_in (put_rule sets i premise conclusion) i ≡ record { premise = premise; conclusion = conclusion }
   put_rule_same h =
       let first = set sets (2 * i) premise in
       let p : get_or (put_rule sets i premise conclusion) (2 * i) 0 ≡ premise =
-      get_or_set_other first (2 * i + 1) (2 * i) conclusion 0 (omega arith) ∙ get_or-set_same sets (2 * i) premise 0 (omega arith) in
+      get_or-set_other first (2 * i + 1) (2 * i) conclusion 0 (omega arith) ∙ get_or-set_same sets (2 * i) premise 0 (omega arith) in
       let c : get_or (put_rule sets i premise conclusion) (2 * i + 1) 0 ≡ conclusion =
       get_or-set_same first (2 * i + 1) conclusion 0 (simp length-set (omega arith)) in
       cc

@@ -1,6 +1,8 @@
 // The closure of a set of facts under the rules of a sheet.
+#![tactic(auto)]
+
 ghost use Rattle.std.specs.Prelude.{◌≡◌, ◌+◌, ◌*◌, ◌≤◌, ◌<◌, length};
-ghost use Rattle.stores.specs.Stores.{fire, pass, closure};
+ghost use Rattle.sheets.specs.Stores.{fire, pass, closure};
 ghost use Rattle.sheets.specs.SheetLimits.{max_rules};
 ghost use Rattle.set_closure.specs.RuleTable.{rule_in, rules_in};
 

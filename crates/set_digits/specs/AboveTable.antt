@@ -1,12 +1,12 @@
 -- A table of the places that include each place of a word: its rule as one computed test.
 use Rattle.std.specs.Prelude.{◌≡◌, Bool, true, List, ℕ, ◌<◌, eqb, get_or}
 use Rattle.std.proofs.Common.{arith, eqb-true}
-use Rattle.lists.specs.Lists.{all}
-use Rattle.list_laws.specs.Members.{all_yes}
-use Rattle.stores.specs.FactSets.{digit}
-use Rattle.stores.specs.Stores.{includes}
-use Rattle.moves.specs.Moves.{count_up}
-use Rattle.move_laws.specs.LabelLaws.{count_up_mem}
+use Rattle.search_laws.specs.Lists.{all}
+use Rattle.search_laws.specs.Members.{all_yes}
+use Rattle.search_laws.specs.FactSets.{digit}
+use Rattle.search_laws.specs.Stores.{includes}
+use Rattle.search_laws.specs.Moves.{count_up}
+use Rattle.search_laws.specs.LabelLaws.{count_up_mem}
 use Rattle.set_digits.specs.SetDigits.{bit, PlacesAbove}
 
 -- digit p of entry b is 1 where p includes b, and else 0

@@ -2,10 +2,10 @@
 use Rattle.std.specs.Prelude.{◌≡◌, refl, Bool, true, false, cond, List, ℕ, ◌+◌, ◌≤◌, ◌<◌, min, length, get_or, set}
 use Rattle.std.proofs.Common.{ap, subst, arith}
 use Rattle.std.specs.Int.Bits.{bit_or, or_zero_l, or_zero_r}
-use Rattle.list_laws.specs.TestLaws.{Tested, passes, fails, tested}
-use Rattle.stores.specs.FactsOutside.{outside}
-use Rattle.stores.specs.Stores.{includes}
-use Rattle.store_laws.specs.OutsideLaws.{or_above}
+use Rattle.search_laws.specs.TestLaws.{Tested, passes, fails, tested}
+use Rattle.search_laws.specs.FactsOutside.{outside}
+use Rattle.search_laws.specs.Stores.{includes}
+use Rattle.search_laws.specs.OutsideLaws.{or_above}
 use Rattle.set_digits.specs.WordDigits.{places_between, includes_has}
 use Rattle.set_digits.specs.FilledWords.{Filled, filled_none, filled_next, filled_over}
 use Rattle.set_digits.specs.SetsAbove.{Has, above_next, next_least}

@@ -1,9 +1,9 @@
 -- Words of a slice stored one after another.
 use Rattle.std.specs.Prelude.{◌≡◌, List, ℕ, ◌+◌, ◌*◌, ◌/◌, ◌%◌, ◌≤◌, ◌<◌, ltb, length, get_or, set}
-use Rattle.std.proofs.Common.{sym, ap, ◌∙◌, inl, inr, arith, get_or-set_same, get_or_set_other, ltb-true, ltb-false}
-use Rattle.list_laws.specs.TestLaws.{Tested, passes, fails, tested}
-use Rattle.list_laws.specs.Frames.{SameOutside, outside_same, outside_set, outside_wider, outside_again}
-use Rattle.stores.specs.FactSets.{digit}
+use Rattle.std.proofs.Common.{sym, ap, ◌∙◌, inl, inr, arith, get_or-set_same, get_or-set_other, ltb-true, ltb-false}
+use Rattle.search_laws.specs.TestLaws.{Tested, passes, fails, tested}
+use Rattle.search_laws.specs.Frames.{SameOutside, outside_same, outside_set, outside_wider, outside_again}
+use Rattle.search_laws.specs.FactSets.{digit}
 use Rattle.set_digits.specs.SetDigits.{Marked}
 
 -- v is w but for the first k words from `at` on, which are those given
@@ -36,7 +36,7 @@ module _ {at k : ℕ} {w v : List ℕ} {word : ℕ → ℕ} (f : Filled at k w v
       go : (i : ℕ) → i < k + 1 → Tested (ltb i k) → get_or (set v (at + k) x) (at + i) 0 ≡ word i
       go i l (passes p) =
           let m : i < k = ltb-true i k p in
-          get_or_set_other v (at + k) (at + i) x 0 (λ (q : at + i ≡ at + k). omega arith) ∙ f.words i m
+          get_or-set_other v (at + k) (at + i) x 0 (λ (q : at + i ≡ at + k). omega arith) ∙ f.words i m
       go i l (fails p) =
           let q : i ≡ k = omega (arith, ltb-false i k p) in
           ap (λ (j : ℕ). get_or (set v (at + k) x) (at + j) 0) q ∙ get_or-set_same v (at + k) x 0 (omega (arith, f.same.long)) ∙ e ∙ ap word (sym q)

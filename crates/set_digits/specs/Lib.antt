@@ -1,3 +1,17 @@
+pub use Rattle.search_laws.specs.CandidateLaws
+pub use Rattle.search_laws.specs.FactSetLaws
+pub use Rattle.search_laws.specs.FactSets
+pub use Rattle.search_laws.specs.Frames
+pub use Rattle.search_laws.specs.LabelLaws
+pub use Rattle.search_laws.specs.Moves
+pub use Rattle.search_laws.specs.OrderedSearch
+pub use Rattle.search_laws.specs.SearchLaws
+pub use Rattle.search_laws.specs.Sheet
+pub use Rattle.search_laws.specs.SheetLimits
+pub use Rattle.search_laws.specs.SizeLaws
+pub use Rattle.search_laws.specs.SupersetLaws
+pub use Rattle.search_laws.specs.Tabulate
+pub use Rattle.search_laws.specs.TestLaws
 pub mod SetDigits
 pub mod WordDigits
 pub mod FilledWords

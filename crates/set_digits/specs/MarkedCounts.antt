@@ -4,10 +4,10 @@ use Rattle.std.proofs.Common.{sym, ap, ap₂, ◌∙◌, pow-suc, arith, length-
 use Rattle.std.specs.Int.Count.{ones, ones_step}
 use Rattle.std.proofs.lemmas.Nat.{ones-le}
 use Rattle.std.proofs.lemmas.Bool.{eqb-false}
-use Rattle.lists.specs.Lists.{select}
-use Rattle.stores.specs.FactSets.{digit}
-use Rattle.store_laws.specs.FactSetLaws.{digit_zero, digit_half}
-use Rattle.moves.specs.Moves.{count_up}
+use Rattle.search_laws.specs.Lists.{select}
+use Rattle.search_laws.specs.FactSets.{digit}
+use Rattle.search_laws.specs.FactSetLaws.{digit_zero, digit_half}
+use Rattle.search_laws.specs.Moves.{count_up}
 use Rattle.search_laws.specs.SupersetLaws.{count_up_append, select_append}
 use Rattle.set_digits.specs.SetDigits.{mark, marked_sets}
 

@@ -1,13 +1,13 @@
 -- Laws of the digits of sets in words: no mark, the same marks, as many words as the sets need.
 use Rattle.std.specs.Prelude.{◌≡◌, refl, Bool, true, false, ◌&&◌, List, [], ◌∷◌, ◌++◌, ℕ, ◌+◌, ◌-◌, ◌*◌, ◌/◌, ◌%◌, ◌^◌, ◌≤◌, ◌<◌, eqb, ltb, length, get_or, take, drop}
-use Rattle.std.proofs.Common.{sym, ap, ap₂, ◌∙◌, arith, add-one, pow_mono, pow-add, length-take, length-drop, take-suc, get_or_take, get_or-drop, ltb-true, ltb-false, lt-ltb, eqb-true, eq_eqb}
+use Rattle.std.proofs.Common.{sym, ap, ap₂, ◌∙◌, arith, add-one, pow_mono, pow-add, length-take, length-drop, take-suc, get_or-take, get_or-drop, ltb-true, ltb-false, lt-ltb, eqb-true, eq-eqb}
 use Rattle.std.specs.Int.Bits.{bit_or}
-use Rattle.lists.specs.Lists.{all}
-use Rattle.list_laws.specs.TestLaws.{Tested, passes, fails, tested, same_test, and_left, and_right}
-use Rattle.list_laws.specs.Members.{all_yes}
-use Rattle.list_laws.specs.ListPlaces.{get_d_in}
-use Rattle.stores.specs.FactSets.{digit}
-use Rattle.store_laws.specs.FactSetLaws.{zero_digit, within_le, within_or_left, within_or_right}
+use Rattle.search_laws.specs.Lists.{all}
+use Rattle.search_laws.specs.TestLaws.{Tested, passes, fails, tested, same_test, and_left, and_right}
+use Rattle.search_laws.specs.Members.{all_yes}
+use Rattle.search_laws.specs.ListPlaces.{get_d_in}
+use Rattle.search_laws.specs.FactSets.{digit}
+use Rattle.search_laws.specs.FactSetLaws.{zero_digit, within_le, within_or_left, within_or_right}
 use Rattle.set_digits.specs.SetDigits.{bit, words_of, mark, none_marked, FirstWord}
 
 -- marks agree where the words do
@@ -22,7 +22,7 @@ none_marked_lem w at words h e s l =
     let p : s / 32 < length (take words (drop at w)) = simp (length-take, length-drop) (omega arith) in
     let z : get_or (take words (drop at w)) (s / 32) 0 ≡ 0 =
     eqb-true _ 0 (all_yes (λ x. eqb x 0) (take words (drop at w)) e (get_d_in (take words (drop at w)) (s / 32) 0 p)) in
-    let y : get_or w (at + s / 32) 0 ≡ 0 = sym (get_or_take words (drop at w) (s / 32) 0 i ∙ get_or-drop at w (s / 32) 0) ∙ z in
+    let y : get_or w (at + s / 32) 0 ≡ 0 = sym (get_or-take words (drop at w) (s / 32) 0 i ∙ get_or-drop at w (s / 32) 0) ∙ z in
     ap (λ (x : ℕ). digit x (s % 32)) y ∙ zero_digit (s % 32)
 
 -- ---- how many words
@@ -61,7 +61,7 @@ or_none a b =
     same_test (eqb (bit_or a b) 0) (eqb a 0 && eqb b 0)
     (λ h.
     let e = eqb-true (bit_or a b) 0 h in
-    rw (eq_eqb a 0 (omega (arith, within_le (within_or_left a b))), eq_eqb b 0 (omega (arith, within_le (within_or_right a b)))))
+    rw (eq-eqb a 0 (omega (arith, within_le (within_or_left a b))), eq-eqb b 0 (omega (arith, within_le (within_or_right a b)))))
     (λ h. rw (eqb-true a 0 (and_left (eqb a 0) (eqb b 0) h), eqb-true b 0 (and_right (eqb a 0) (eqb b 0) h)))
 
 all_one_more : (p : ℕ → Bool) (xs : List ℕ) (y : ℕ) → all p (xs ++ (y ∷ [])) ≡ (all p xs && p y)

@@ -1,10 +1,10 @@
 -- One digit for each set of facts, 32 sets to a word: the digit of set s is digit s % 32 of the word at s / 32.
 use Rattle.std.specs.Prelude.{◌≡◌, Bool, true, false, cond, List, ℕ, ◌+◌, ◌-◌, ◌*◌, ◌/◌, ◌%◌, ◌^◌, ◌≤◌, ◌<◌, length, get_or, take, drop, eqb, ltb}
-use Rattle.lists.specs.Lists.{select, all}
-use Rattle.list_laws.specs.Frames.{SameOutside}
-use Rattle.stores.specs.FactSets.{digit}
-use Rattle.stores.specs.Stores.{includes}
-use Rattle.moves.specs.Moves.{count_up}
+use Rattle.search_laws.specs.Lists.{select, all}
+use Rattle.search_laws.specs.Frames.{SameOutside}
+use Rattle.search_laws.specs.FactSets.{digit}
+use Rattle.search_laws.specs.Stores.{includes}
+use Rattle.search_laws.specs.Moves.{count_up}
 
 -- 1 where a test passes, else 0
 abbrev pub bit : Bool → ℕ

@@ -4,7 +4,7 @@ use Rattle.std.proofs.Common.{ap, arith, eqb-true}
 use Rattle.std.proofs.Math.Arith.{bin_ind}
 use Rattle.std.specs.Int.Bits.{bit_or, or_step, or_zero_l}
 use Rattle.std.proofs.lemmas.Bool.{eqb-false}
-use Rattle.store_laws.specs.FactSetLaws.{within_refl, within_antisym, within_or_left, within_or_right, or_least, within_le}
+use Rattle.search_laws.specs.FactSetLaws.{within_refl, within_antisym, within_or_left, within_or_right, or_least, within_le}
 
 -- v has all facts of d
 abbrev pub Has : ℕ → ℕ → Type 0

@@ -1,14 +1,14 @@
 -- Laws of the digits of a word, and of the places of a word that belong to sets which include one set and not another.
 use Rattle.std.specs.Prelude.{◌≡◌, refl, Bool, true, false, cond, not, ◌&&◌, ℕ, zero, suc, ◌+◌, ◌-◌, ◌*◌, ◌/◌, ◌%◌, ◌^◌, ◌≤◌, ◌<◌, eqb, ltb}
-use Rattle.std.proofs.Common.{sym, ap, ap₂, ◌∙◌, pow-suc, arith, pow_pos, shl_exact, ltb-true, lt-ltb, le-ltb, eqb-true, eq_eqb, ne_eqb}
+use Rattle.std.proofs.Common.{sym, ap, ap₂, ◌∙◌, pow-suc, arith, pow_pos, shl_exact, ltb-true, lt-ltb, le-ltb, eqb-true, eq-eqb, ne_eqb}
 use Rattle.std.specs.Int.Bits.{bit_and, bit_or, or_add_and}
 use Rattle.std.proofs.lemmas.Nat.{and_comm}
-use Rattle.list_laws.specs.TestLaws.{same_test}
-use Rattle.stores.specs.FactSets.{digit}
-use Rattle.stores.specs.FactsOutside.{outside}
-use Rattle.stores.specs.Stores.{includes}
-use Rattle.store_laws.specs.FactSetLaws.{digit_and, digit_or, digit_half, digit_zero, zero_digit}
-use Rattle.store_laws.specs.OutsideLaws.{or_outside, outside_apart}
+use Rattle.search_laws.specs.TestLaws.{same_test}
+use Rattle.search_laws.specs.FactSets.{digit}
+use Rattle.search_laws.specs.FactsOutside.{outside}
+use Rattle.search_laws.specs.Stores.{includes}
+use Rattle.search_laws.specs.FactSetLaws.{digit_and, digit_or, digit_half, digit_zero, zero_digit}
+use Rattle.search_laws.specs.OutsideLaws.{or_outside, outside_apart}
 use Rattle.search_laws.specs.SupersetLaws.{includes_block}
 use Rattle.set_digits.specs.SetDigits.{bit, PlacesAbove}
 
@@ -72,11 +72,11 @@ includes_has d v h = omega (arith, eqb-true (bit_and d v) d h, or_add_and d v)
 
 -- and the other way round
 pub has_includes : (d v : ℕ) → bit_or d v ≡ v → includes v d ≡ true
-has_includes d v h = eq_eqb (bit_and d v) d (omega (arith, or_add_and d v))
+has_includes d v h = eq-eqb (bit_and d v) d (omega (arith, or_add_and d v))
 
 -- the test of the code where it passes
 pub includes_passes : (v d : ℕ) → bit_and v d ≡ d → includes v d ≡ true
-includes_passes v d e = eq_eqb (bit_and d v) d (and_comm d v ∙ e)
+includes_passes v d e = eq-eqb (bit_and d v) d (and_comm d v ∙ e)
 
 -- and where it fails
 pub includes_fails : (v d : ℕ) → (bit_and v d ≡ d → ⊥) → includes v d ≡ false

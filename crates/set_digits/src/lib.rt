@@ -1,8 +1,10 @@
 // Digits of sets in the words of a slice: every set marked, sets cleared, marks counted.
+#![tactic(auto)]
+
 ghost use Rattle.std.specs.Prelude.{◌≡◌, cond, not, ◌&&◌, ◌+◌, ◌*◌, ◌≤◌, ◌<◌, ◌^◌, length, eqb, ltb};
-ghost use Rattle.stores.specs.FactsOutside.{outside};
-ghost use Rattle.stores.specs.Stores.{includes};
-ghost use Rattle.sheets.specs.SheetLimits.{max_facts};
+ghost use Rattle.search_laws.specs.FactsOutside.{outside};
+ghost use Rattle.search_laws.specs.Stores.{includes};
+ghost use Rattle.search_laws.specs.SheetLimits.{max_facts};
 ghost use Rattle.set_digits.specs.SetDigits.{bit, words_of, mark, PlacesAbove, FirstWord, Marked, marked_sets, none_marked};
 
 // For each place of a word, the places that include it.

@@ -1,8 +1,8 @@
 -- What the grouping over a set in the work slice returns and leaves in both slices.
 use Rattle.std.specs.Prelude.{◌≡◌, ℕ, ◌≤◌}
 use mathlib.Core.List.{List, Memᴰ}
-use Rattle.sheets.specs.SheetLimits.{max_starts}
-use Rattle.sheets.specs.Sheet.{Configuration, Sheet}
+use Rattle.sheet_types.specs.SheetLimits.{max_starts}
+use Rattle.sheet_types.specs.Sheet.{Configuration, Sheet}
 use Rattle.sheet_types.specs.declared.Configuration as held
 use Rattle.sheet_types.specs.HeldSheet.{starts_in}
 use Rattle.start_reader.specs.StartsFound.{FewThreads}

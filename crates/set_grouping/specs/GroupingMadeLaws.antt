@@ -3,20 +3,20 @@ use Rattle.std.specs.Prelude.{◌≡◌, ℕ, ◌+◌, ◌*◌, ◌≤◌, ◌<�
 use Rattle.std.proofs.Common.{sym, ◌∙◌, subst, arith, length-append}
 use Rattle.std.proofs.Math.Path.{ap, ap₂}
 use mathlib.Core.List.{List, [], ◌++◌, map, Memᴰ}
-use Rattle.lists.specs.Lists.{concat_map}
-use Rattle.list_laws.specs.Frames.{SameOutside, outside_then}
-use Rattle.list_laws.specs.TabulateLaws.{mem_tabulate}
-use Rattle.sheets.specs.Refusals.{short_answer}
-use Rattle.sheets.specs.Sheet.{Configuration, Sheet}
-use Rattle.sheets.specs.SheetBytes.{word_bytes}
+use Rattle.sheet_types.specs.Lists.{concat_map}
+use Rattle.start_classes.specs.Frames.{SameOutside, outside_then}
+use Rattle.start_classes.specs.TabulateLaws.{mem_tabulate}
+use Rattle.sheet_types.specs.Refusals.{short_answer}
+use Rattle.sheet_types.specs.Sheet.{Configuration, Sheet}
+use Rattle.start_reader.specs.SheetBytes.{word_bytes}
 use Rattle.sheet_types.specs.declared.Configuration as held
 use Rattle.sheet_types.specs.HeldSheet.{configuration, no_configuration, starts_in}
-use Rattle.work_layout.specs.WorkLayout.{work_end}
-use Rattle.work_layout.specs.SetLayout.{SetHeld}
-use Rattle.work_layout.specs.ClassLayout.{classes_in}
-use Rattle.comparison.specs.Classes.{class_of}
-use Rattle.comparison.specs.Rounds.{rounds, result_of}
-use Rattle.dominators.specs.FoundMembers.{held_ordered}
+use Rattle.start_classes.specs.WorkLayout.{work_end}
+use Rattle.report_bytes.specs.SetLayout.{SetHeld}
+use Rattle.start_classes.specs.ClassLayout.{classes_in}
+use Rattle.all_starts.specs.Classes.{class_of}
+use Rattle.all_starts.specs.Rounds.{rounds, result_of}
+use Rattle.start_classes.specs.FoundMembers.{held_ordered}
 use Rattle.class_rounds.specs.RoundsDone.{Ready, RoundsHeld, Refined, LastRound, refined_outside}
 use Rattle.separations.specs.ReportClasses.{Renumbered, result_numbers}
 use Rattle.report_bytes.specs.AnswerMade.{made_refused, made_given}
@@ -25,8 +25,8 @@ use Rattle.report_bytes.specs.ReportInSlice.{MembersHeld}
 use Rattle.report_bytes.specs.ReportInSliceLaws.{members_held, members_agree, held_members}
 use Rattle.start_classes.specs.StartClasses.{starts_part, StartsHeld}
 use Rattle.start_classes.specs.StartClassLaws.{starts_length, starts_bytes}
-use Rattle.text.specs.Slices.{Stored}
-use Rattle.text.specs.StoredText.{stored_then}
+use Rattle.start_classes.specs.Slices.{Stored}
+use Rattle.start_classes.specs.StoredText.{stored_then}
 use Rattle.report_bytes.specs.BytesStored.{stored_front}
 use Rattle.all_starts.specs.Grouping.{grouping_on, grouping_bytes}
 use Rattle.all_starts.specs.GroupingRead.{groups_returned}

@@ -1,4 +1,6 @@
 // The grouping of a sheet's starts over a set that stands in the work slice: rounds, classes and answer bytes.
+#![tactic(auto)]
+
 ghost use Rattle.set_grouping.specs.GroupingMade.{GroupingReady, GroupingMade};
 
 use all_starts::{AllAnswer, Grouped};

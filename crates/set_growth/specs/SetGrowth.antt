@@ -2,15 +2,15 @@
 -- collected.
 use Rattle.std.specs.Prelude.{◌≡◌, ℕ, length}
 use mathlib.Core.List.{List, Memᴰ}
-use Rattle.lists.specs.Lists.{Distinct}
-use Rattle.sheets.specs.Sheet.{Configuration, Sheet}
-use Rattle.sheets.specs.WellFormed.{WellFormed, OfSheet}
-use Rattle.moves.specs.Orders.{Move}
-use Rattle.moves.specs.Moves.{moves}
-use Rattle.refinement.specs.Refinement.{Member}
-use Rattle.comparison.specs.CallLimits.{Limits}
-use Rattle.comparison.specs.SheetTransitions.{transitions}
-use Rattle.comparison.specs.Promise.{MemberMove}
+use Rattle.comparison_laws.specs.Lists.{Distinct}
+use Rattle.comparison_laws.specs.Sheet.{Configuration, Sheet}
+use Rattle.comparison_laws.specs.WellFormed.{WellFormed, OfSheet}
+use Rattle.comparison_laws.specs.Orders.{Move}
+use Rattle.comparison_laws.specs.Moves.{moves}
+use Rattle.comparison_laws.specs.Refinement.{Member}
+use Rattle.comparison_laws.specs.CallLimits.{Limits}
+use Rattle.comparison_laws.specs.SheetTransitions.{transitions}
+use Rattle.comparison_laws.specs.Promise.{MemberMove}
 use Rattle.collected_moves.specs.declared.Caps.{Caps}
 use Rattle.collected_moves.specs.declared.Running.{Running}
 use Rattle.collected_moves.specs.CollectedMoves.{members_of, moves_of}

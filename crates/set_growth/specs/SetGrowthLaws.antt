@@ -4,31 +4,31 @@ use Rattle.std.specs.Prelude.{◌≡◌, refl, true, ℕ, ◌+◌, ◌-◌, ◌/
 use Rattle.std.proofs.Common.{sym, ap, ◌∙◌, subst, ⊎_elim, arith, length-append}
 use mathlib.Core.List.{List, [], ◌∷◌, ◌++◌, map, Memᴰ}
 use Rattle.std.proofs.lemmas.List.{length-map}
-use Rattle.list_laws.specs.Tabulate.{tabulate_at, tabulate_length}
-use Rattle.list_laws.specs.TabulateLaws.{mem_tabulate, tabulate_mem}
-use Rattle.list_laws.specs.Members.{mem_map, map_mem}
-use Rattle.lists.specs.Lists.{Distinct, no_elements, one_more}
-use Rattle.list_laws.specs.Counting.{distinct_append, distinct_map, distinct_map_on, ascends_distinct}
-use Rattle.stores.specs.Stores.{strictly_below}
-use Rattle.store_laws.specs.StoreLaws.{below_within}
-use Rattle.sheets.specs.Sheet.{Configuration}
-use Rattle.sheets.specs.WellFormed.{OfSheet}
-use Rattle.moves.specs.Orders.{Move}
-use Rattle.moves.specs.Moves.{moves, add}
-use Rattle.refinement.specs.Refinement.{target, added}
-use Rattle.refinement_laws.specs.StableRounds.{member_of}
-use Rattle.comparison.specs.SheetTransitions.{transitions}
+use Rattle.collected_moves.specs.Tabulate.{tabulate_at, tabulate_length}
+use Rattle.collected_moves.specs.TabulateLaws.{mem_tabulate, tabulate_mem}
+use Rattle.comparison_laws.specs.Members.{mem_map, map_mem}
+use Rattle.comparison_laws.specs.Lists.{Distinct, no_elements, one_more}
+use Rattle.comparison_laws.specs.Counting.{distinct_append, distinct_map, distinct_map_on, ascends_distinct}
+use Rattle.comparison_laws.specs.Stores.{strictly_below}
+use Rattle.comparison_laws.specs.StoreLaws.{below_within}
+use Rattle.comparison_laws.specs.Sheet.{Configuration}
+use Rattle.comparison_laws.specs.WellFormed.{OfSheet}
+use Rattle.comparison_laws.specs.Orders.{Move}
+use Rattle.comparison_laws.specs.Moves.{moves, add}
+use Rattle.comparison_laws.specs.Refinement.{target, added}
+use Rattle.comparison_laws.specs.StableRounds.{member_of}
+use Rattle.comparison_laws.specs.SheetTransitions.{transitions}
 use Rattle.comparison_laws.specs.SheetMoves.{lawful}
-use Rattle.comparison.specs.Promise.{MemberMove, PassesLimit, many_members, many_threads_lem, many_moves}
-use Rattle.list_laws.specs.AscendingLaws.{number_order}
-use Rattle.number_lists.specs.NumberLaws.{numbers_length}
-use Rattle.member_table.specs.MemberTable.{member_in}
-use Rattle.member_table.specs.MemberLaws.{member_id, members_distinct}
+use Rattle.comparison_laws.specs.Promise.{MemberMove, PassesLimit, many_members, many_threads_lem, many_moves}
+use Rattle.comparison_laws.specs.AscendingLaws.{number_order}
+use Rattle.collected_moves.specs.NumberLaws.{numbers_length}
+use Rattle.collected_moves.specs.MemberTable.{member_in}
+use Rattle.collected_moves.specs.MemberLaws.{member_id, members_distinct}
 use Rattle.collected_moves.specs.declared.Caps.{Caps}
 use Rattle.collected_moves.specs.declared.Running.{Running}
 use Rattle.collected_moves.specs.CollectedMoves.{member_part, members_of, move_in_lem, move_numbers, moves_of, Collecting, Grown, NotedOn, NoRoom, EnteredOn, NoRoomFor}
 use Rattle.set_growth.specs.SetGrowth.{Growth, Sound, InSet, InHand, Gathered}
-use Rattle.work_layout.specs.WorkLayout.{moves_at}
+use Rattle.collected_moves.specs.WorkLayout.{moves_at}
 
 -- ---- members of the set
 -- every member is a configuration of the sheet

@@ -1,7 +1,7 @@
 -- The ways through the loops that copy and that put places for ids: each step keeps what was promised of those before it.
 use Rattle.std.specs.Prelude.{◌≡◌, refl, ◌⊎◌, Bool, true, false, List, ℕ, ◌+◌, ◌*◌, ◌-◌, ◌/◌, ◌%◌, ◌≤◌, ◌<◌, length, get_or, set, ltb}
-use Rattle.std.proofs.Common.{sym, ap, ◌∙◌, subst, inl, inr, arith, length-set, get_or-set_same, get_or_set_other, ltb-true, ltb-false}
-use Rattle.list_laws.specs.Frames.{SameOutside, outside_same, outside_set, outside_again, outside_wider}
+use Rattle.std.proofs.Common.{sym, ap, ◌∙◌, subst, inl, inr, arith, length-set, get_or-set_same, get_or-set_other, ltb-true, ltb-false}
+use Rattle.number_lists.specs.Frames.{SameOutside, outside_same, outside_set, outside_again, outside_wider}
 use Rattle.member_table.specs.MemberTable.{id_in, Kept}
 use Rattle.member_table.specs.TableInPart.{part_outside, kept_outside}
 use Rattle.member_table.specs.MemberLaws.{ids_apart}
@@ -31,7 +31,7 @@ module _ {v w : List ℕ} {from to i : ℕ} (k : ℕ) (c : Copied v from to i w)
       go : (j : ℕ) → j < i + 1 → (b : Bool) → ltb j i ≡ b → get_or (set w (to + i) (get_or w (from + i) 0)) (to + j) 0 ≡ get_or v (from + j) 0
       go j m true e =
           let s : j < i = ltb-true j i e in
-          get_or_set_other w (to + i) (to + j) (get_or w (from + i) 0) 0 (omega arith) ∙ c.at j s
+          get_or-set_other w (to + i) (to + j) (get_or w (from + i) 0) 0 (omega arith) ∙ c.at j s
       go j m false e =
           let q : j ≡ i = omega (arith, ltb-false j i e) in
           ap (λ (z : ℕ). get_or (set w (to + i) (get_or w (from + i) 0)) (to + z) 0) q
@@ -70,7 +70,7 @@ module _ {v w : List ℕ} {from i : ℕ} (t : TargetsPlaced v from i w) (h : fro
       go : (j : ℕ) → from ≤ j → j < i + 1 → (b : Bool) → ltb j i ≡ b → get_or (set w i x) j 0 ≡ placed_number v (get_or v j 0)
       go j m n true q =
           let s : j < i = ltb-true j i q in
-          get_or_set_other w i j x 0 (omega arith) ∙ t.at j m s
+          get_or-set_other w i j x 0 (omega arith) ∙ t.at j m s
       go j m n false q =
           let z : j ≡ i = omega (arith, ltb-false j i q) in
           ap (λ (s : ℕ). get_or (set w i x) s 0) z ∙ get_or-set_same w i x 0 (omega (arith, t.outside.long)) ∙ e
@@ -104,7 +104,7 @@ module _ {v w : List ℕ} {i : ℕ} (n : ℕ) (p : IdsPlaced v i w) (k : Kept (m
           → get_or (set w (places_at + id) i) (places_at + id_in (member_part v) j) 0 ≡ j
       go r b q j m true z =
           let s : j < i = ltb-true j i z in
-          get_or_set_other w (places_at + id) (places_at + id_in (member_part v) j) i 0 (other s) ∙ p.at j s
+          get_or-set_other w (places_at + id) (places_at + id_in (member_part v) j) i 0 (other s) ∙ p.at j s
         where
           other : j < i → places_at + id_in (member_part v) j ≡ places_at + id → ⊥
           other s a =
@@ -127,19 +127,19 @@ aside_stored {v} {u} {n} {j} {id} k h e c =
     let y : members_at + 3 * id + 0 ≡ members_at + 3 * id = omega arith in
     record {
       first =
-          get_or_set_other u (spare_spans_at + j) (spare_members_at + 3 * j) x 0 (omega arith)
+          get_or-set_other u (spare_spans_at + j) (spare_members_at + 3 * j) x 0 (omega arith)
           ∙ ap (λ (i : ℕ). get_or u i 0) (sym z) ∙ c.at 0 (omega arith) ∙ ap (λ (i : ℕ). get_or v i 0) y
           ∙ ap (λ (i : ℕ). get_or v (members_at + 3 * i) 0) e;
       second =
-          get_or_set_other u (spare_spans_at + j) (spare_members_at + 3 * j + 1) x 0 (omega arith) ∙ c.at 1 (omega arith)
+          get_or-set_other u (spare_spans_at + j) (spare_members_at + 3 * j + 1) x 0 (omega arith) ∙ c.at 1 (omega arith)
           ∙ ap (λ (i : ℕ). get_or v (members_at + 3 * i + 1) 0) e;
       third =
-          get_or_set_other u (spare_spans_at + j) (spare_members_at + 3 * j + 2) x 0 (omega arith) ∙ c.at 2 (omega arith)
+          get_or-set_other u (spare_spans_at + j) (spare_members_at + 3 * j + 2) x 0 (omega arith) ∙ c.at 2 (omega arith)
           ∙ ap (λ (i : ℕ). get_or v (members_at + 3 * i + 2) 0) e;
       span =
           get_or-set_same u (spare_spans_at + j) x 0 (omega (arith, c.outside.long, k.long))
           ∙ ap (λ (i : ℕ). get_or v (spans_at + i) 0 - 1) e;
-      others = λ i o d. get_or_set_other u (spare_spans_at + j) i x 0 d ∙ c.outside.at i o;
+      others = λ i o d. get_or-set_other u (spare_spans_at + j) i x 0 d ∙ c.outside.at i o;
       long = length-set u (spare_spans_at + j) x ∙ c.outside.long;
     }
 

@@ -1,3 +1,6 @@
+pub use Rattle.number_lists.specs.Counting
+pub use Rattle.number_lists.specs.Frames
+pub use Rattle.number_lists.specs.Members
 pub mod OrderedSet
 pub mod SetOrderSteps
 pub mod CopyLaws

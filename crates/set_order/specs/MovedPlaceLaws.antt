@@ -2,13 +2,13 @@
 use Rattle.std.specs.Prelude.{◌≡◌, refl, ◌⊎◌, Bool, true, false, ℕ, zero, suc, ◌+◌, ◌-◌, ◌/◌, ◌%◌, ◌≤◌, ◌<◌, length, get_or, ltb}
 use Rattle.std.proofs.Common.{sym, ap, ◌∙◌, subst, inl, inr, arith, ltb-true, ltb-false}
 use mathlib.Core.List.{List, [], ◌∷◌, ◌++◌, map, map-append, Memᴰ}
-use Rattle.list_laws.specs.Members.{mem_map}
-use Rattle.list_laws.specs.ListPlaces.{map_alike}
-use Rattle.list_laws.specs.Tabulate.{tabulate, tabulate_same}
-use Rattle.lists.specs.Lists.{Distinct, no_elements, one_more, arrange}
-use Rattle.list_laws.specs.Counting.{ascends_distinct}
-use Rattle.list_laws.specs.Frames.{SameOutside, outside_same, outside_again, outside_wider}
-use Rattle.list_laws.specs.AscendingLaws.{number_order}
+use Rattle.number_lists.specs.Members.{mem_map}
+use Rattle.number_lists.specs.ListPlaces.{map_alike}
+use Rattle.number_lists.specs.Tabulate.{tabulate, tabulate_same}
+use Rattle.number_lists.specs.Lists.{Distinct, no_elements, one_more, arrange}
+use Rattle.number_lists.specs.Counting.{ascends_distinct}
+use Rattle.number_lists.specs.Frames.{SameOutside, outside_same, outside_again, outside_wider}
+use Rattle.number_lists.specs.AscendingLaws.{number_order}
 use Rattle.number_lists.specs.NumberLists.{numbers_in}
 use Rattle.number_lists.specs.NumberLaws.{numbers_tabulate, numbers_at_lem, numbers_outside}
 use Rattle.number_lists.specs.Entered.{Sorted}

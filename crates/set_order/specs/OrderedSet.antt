@@ -1,12 +1,12 @@
 -- The explored set by discovery, and the same set in document 01's order.
 use Rattle.std.specs.Prelude.{◌≡◌, ◌⊎◌, ◌↔◌, ℕ, ◌+◌, ◌*◌, ◌-◌, ◌/◌, ◌%◌, ◌≤◌, ◌<◌, length, get_or}
 use mathlib.Core.List.{List, map, Memᴰ}
-use Rattle.lists.specs.Lists.{Ascends}
-use Rattle.list_laws.specs.Frames.{SameOutside}
-use Rattle.moves.specs.Orders.{Move}
-use Rattle.list_laws.specs.AscendingLaws.{number_order}
+use Rattle.number_lists.specs.Lists.{Ascends}
+use Rattle.number_lists.specs.Frames.{SameOutside}
+use Rattle.member_table.specs.Orders.{Move}
+use Rattle.number_lists.specs.AscendingLaws.{number_order}
 use Rattle.number_lists.specs.NumberLists.{numbers_in}
-use Rattle.packing.specs.Packing.{Packed}
+use Rattle.member_table.specs.Packing.{Packed}
 use Rattle.member_table.specs.MemberTable.{id_in, placed_in, Kept}
 use Rattle.collected_moves.specs.CollectedMoves.{member_part, move_in_lem}
 use Rattle.work_layout.specs.SetLayout.{member_at, first_move, move_total, move_numbers_at, moves_held_at}

@@ -3,15 +3,15 @@ use Rattle.std.specs.Prelude.{◌≡◌, refl, ◌↔◌, Bool, true, false, con
 use Rattle.std.proofs.Common.{sym, ap₂, ◌∙◌, subst, arith, ltb-true, lt-ltb, eqb-true}
 use mathlib.Core.List.{List, [], ◌∷◌, map, Memᴰ}
 use Rattle.std.proofs.lemmas.Bool.{eqb-false}
-use Rattle.list_laws.specs.Members.{mem_map}
-use Rattle.list_laws.specs.Tabulate.{tabulate_same}
-use Rattle.list_laws.specs.TabulateLaws.{ascends_at}
-use Rattle.list_laws.specs.AscendingLaws.{Order, ascends_head, ascends_tail, ascends_unique, arrange_ascends, number_order}
-use Rattle.lists.specs.Lists.{Ascends, none_left, then_rest}
-use Rattle.sheets.specs.Sheet.{Configuration, Sheet}
-use Rattle.moves.specs.Orders.{Move, configuration_before, move_before}
-use Rattle.move_laws.specs.OrderLaws.{configuration_order, move_order}
-use Rattle.moves.specs.Moves.{moves, moves_from}
+use Rattle.number_lists.specs.Members.{mem_map}
+use Rattle.number_lists.specs.Tabulate.{tabulate_same}
+use Rattle.number_lists.specs.TabulateLaws.{ascends_at}
+use Rattle.number_lists.specs.AscendingLaws.{Order, ascends_head, ascends_tail, ascends_unique, arrange_ascends, number_order}
+use Rattle.number_lists.specs.Lists.{Ascends, none_left, then_rest}
+use Rattle.member_table.specs.Sheet.{Configuration, Sheet}
+use Rattle.member_table.specs.Orders.{Move, configuration_before, move_before}
+use Rattle.member_table.specs.OrderLaws.{configuration_order, move_order}
+use Rattle.member_table.specs.Moves.{moves, moves_from}
 use Rattle.member_table.specs.MemberTable.{member_in, id_in, placed_in, ordered_in}
 use Rattle.collected_moves.specs.CollectedMoves.{member_part}
 use Rattle.work_layout.specs.SetLayout.{member_at, move_numbers_at, move_from, moves_held_at, SetHeld}

@@ -1,16 +1,16 @@
 -- The steps one after another: each asks what those before it leave, and all together arrange the set.
 use Rattle.std.specs.Prelude.{◌≡◌, refl, ◌⊎◌, ℕ, ◌+◌, ◌*◌, ◌-◌, ◌/◌, ◌%◌, ◌≤◌, ◌<◌, get_or, drop}
-use Rattle.std.proofs.Common.{sym, ap, ap₂, ◌∙◌, subst, inl, inr, arith, get_or_take, get_or-drop}
+use Rattle.std.proofs.Common.{sym, ap, ap₂, ◌∙◌, subst, inl, inr, arith, get_or-take, get_or-drop}
 use mathlib.Core.List.{List, map, Memᴰ}
-use Rattle.list_laws.specs.Members.{mem_map, map_mem}
-use Rattle.lists.specs.Lists.{Ascends, arrange}
-use Rattle.list_laws.specs.AscendingLaws.{arrange_ascends, arrange_keeps, arrange_only, number_order}
-use Rattle.list_laws.specs.Frames.{SameOutside, outside_again, outside_wider}
-use Rattle.sheets.specs.Sheet.{Configuration}
-use Rattle.moves.specs.Orders.{Move}
+use Rattle.number_lists.specs.Members.{mem_map, map_mem}
+use Rattle.number_lists.specs.Lists.{Ascends, arrange}
+use Rattle.number_lists.specs.AscendingLaws.{arrange_ascends, arrange_keeps, arrange_only, number_order}
+use Rattle.number_lists.specs.Frames.{SameOutside, outside_again, outside_wider}
+use Rattle.member_table.specs.Sheet.{Configuration}
+use Rattle.member_table.specs.Orders.{Move}
 use Rattle.number_lists.specs.NumberLists.{numbers_in}
 use Rattle.number_lists.specs.NumberLaws.{numbers_outside}
-use Rattle.packing.specs.Packing.{unpacked, Packed}
+use Rattle.member_table.specs.Packing.{unpacked, Packed}
 use Rattle.member_table.specs.MemberTable.{member_in, id_in, placed_in, Kept}
 use Rattle.member_table.specs.TableInPart.{part_outside}
 use Rattle.member_table.specs.MemberLaws.{ids_apart, id_placed}
@@ -114,7 +114,7 @@ module _ {v : List ℕ} {n m : ℕ} (d : Discovered v n m) {w₁ : List ℕ} (p 
           ∙ g.outside.at (members_at + k) (inr (omega (arith, room))) ∙ f.at k hk
           ∙ ap (λ (i : ℕ). get_or w₃ i 0) (sym ey) ∙ e ∙ ap (λ (i : ℕ). get_or w₂ i 0) ez
           ∙ a.outside.at (members_at + l) (inr (omega arith)) ∙ p.outside.at (members_at + l) (inl (omega arith))
-          ∙ sym (get_or_take table_length (drop members_at v) l 0 hl ∙ get_or-drop members_at v l 0)
+          ∙ sym (get_or-take table_length (drop members_at v) l 0 hl ∙ get_or-drop members_at v l 0)
 
       first : (j : ℕ) → j < n → get_or w₅ (members_at + 3 * j) 0 ≡ get_or (member_part v) (3 * ident j) 0
       first j h =

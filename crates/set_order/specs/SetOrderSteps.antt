@@ -1,9 +1,9 @@
 -- What the steps of putting the set into order ask and promise.
 use Rattle.std.specs.Prelude.{◌≡◌, ◌⊎◌, ℕ, ◌+◌, ◌*◌, ◌-◌, ◌/◌, ◌%◌, ◌≤◌, ◌<◌, length, get_or}
 use mathlib.Core.List.{List, map, Memᴰ}
-use Rattle.lists.specs.Lists.{Ascends, arrange}
-use Rattle.list_laws.specs.Frames.{SameOutside}
-use Rattle.list_laws.specs.AscendingLaws.{number_order}
+use Rattle.number_lists.specs.Lists.{Ascends, arrange}
+use Rattle.number_lists.specs.Frames.{SameOutside}
+use Rattle.number_lists.specs.AscendingLaws.{number_order}
 use Rattle.number_lists.specs.NumberLists.{numbers_in}
 use Rattle.member_table.specs.MemberTable.{id_in, Kept}
 use Rattle.collected_moves.specs.CollectedMoves.{member_part}

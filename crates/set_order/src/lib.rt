@@ -1,4 +1,6 @@
 // The explored set put into document 01's order: members by their places, and each move with the place of its target.
+#![tactic(auto)]
+
 ghost use Rattle.std.specs.Prelude.{◌≡◌, ◌⊎◌, ℕ, ◌+◌, ◌≤◌, ◌<◌, length, get_or};
 ghost use Rattle.member_table.specs.MemberTable.{Kept};
 ghost use Rattle.collected_moves.specs.CollectedMoves.{member_part};

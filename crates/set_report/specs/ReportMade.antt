@@ -1,7 +1,7 @@
 -- What the report on a set in the work slice returns and leaves in both slices.
 use Rattle.std.specs.Prelude.{List, ℕ}
 use Rattle.sheet_types.specs.declared.Configuration as held
-use Rattle.comparison.specs.Report.{report_on, report_bytes}
+use Rattle.answers.specs.Report.{report_on, report_bytes}
 use Rattle.answers.specs.declared.Answer.{Answer}
 use Rattle.answers.specs.Returned.{returned}
 use Rattle.two_starts.specs.TwoStarts.{PairMade}

@@ -5,42 +5,42 @@ use Rattle.std.proofs.Common.{sym, ap, ◌∙◌, subst, inl, inr, arith, add-on
 use Rattle.std.proofs.Math.Path.{ap₂}
 use mathlib.Core.List.{List, ◌++◌, map, Memᴰ}
 use Rattle.std.proofs.lemmas.List.{length-map}
-use Rattle.list_laws.specs.Frames.{SameOutside, outside_then}
-use Rattle.list_laws.specs.ListPlaces.{get_d_image}
-use Rattle.list_laws.specs.Tabulate.{tabulate, tabulate_same, tabulate_at, tabulate_length}
-use Rattle.sheets.specs.Refusals.{short_answer}
-use Rattle.sheets.specs.Sheet.{Configuration, Sheet}
+use Rattle.packing.specs.Frames.{SameOutside, outside_then}
+use Rattle.packing.specs.ListPlaces.{get_d_image}
+use Rattle.packing.specs.Tabulate.{tabulate, tabulate_same, tabulate_at, tabulate_length}
+use Rattle.sheet_types.specs.Refusals.{short_answer}
+use Rattle.sheet_types.specs.Sheet.{Configuration, Sheet}
 use Rattle.packing.specs.declared.Numbers.{Numbers}
 use Rattle.packing.specs.Packing.{stands_for, PackedIn}
 use Rattle.sheet_types.specs.declared.Configuration as struct
 use Rattle.sheet_types.specs.HeldSheet.{configuration}
-use Rattle.work_layout.specs.SetLayout.{member_at, SetHeld}
-use Rattle.comparison.specs.Classes.{place_of}
-use Rattle.comparison.specs.Rounds.{classes, rounds, apart_in}
-use Rattle.comparison.specs.Trail.{Side, left, right, none, TrailStep, trail}
-use Rattle.comparison.specs.Report as spec
-use Rattle.comparison.specs.Report.{SAME, DIFF, side_byte, report_on, report_bytes, report_length}
-use Rattle.kept_classes.specs.RoundLayout.{same_set_low, held_place}
+use Rattle.report_bytes.specs.SetLayout.{member_at, SetHeld}
+use Rattle.answers.specs.Classes.{place_of}
+use Rattle.answers.specs.Rounds.{classes, rounds, apart_in}
+use Rattle.answers.specs.Trail.{Side, left, right, none, TrailStep, trail}
+use Rattle.answers.specs.Report as spec
+use Rattle.answers.specs.Report.{SAME, DIFF, side_byte, report_on, report_bytes, report_length}
+use Rattle.dominators.specs.RoundLayout.{same_set_low, held_place}
 use Rattle.dominators.specs.FoundMembers.{FoundAt, found_there, held_ordered}
-use Rattle.class_splits.specs.ClassedPlaces.{classed_count, classed_same}
+use Rattle.class_rounds.specs.ClassedPlaces.{classed_count, classed_same}
 use Rattle.class_rounds.specs.RoundAtHand.{nobody}
 use Rattle.class_rounds.specs.RoundsDone.{RoundsHeld, Refined, LastRound, refined_outside, rounds_held_same}
 use Rattle.separations.specs.ApartClasses.{rounds_apart}
 use Rattle.separations.specs.ReportClasses.{NumberReady, Renumbered, rounds_number_ready, result_numbers}
-use Rattle.report_records.specs.RecordLayout.{side_in}
+use Rattle.report_bytes.specs.RecordLayout.{side_in}
 use Rattle.report_bytes.specs.ReportLayout.{held_bytes}
 use Rattle.report_bytes.specs.ReportInSlice.{StepNumbers, step_in, step_numbers, ReportHeld, Agrees}
 use Rattle.report_bytes.specs.AnswerMade.{made_refused, made_given}
 use Rattle.report_bytes.specs.ReportInSliceLaws.{members_held, members_agree, held_report}
-use Rattle.telling_moves.specs.TrailLayout.{apart_at, TrailHeld, BirthsHeld, Followable}
+use Rattle.trail_search.specs.TrailLayout.{apart_at, TrailHeld, BirthsHeld, Followable}
 use Rattle.trail_search.specs.FollowedTrail.{Trailed}
 use Rattle.answers.specs.declared.Answer.TheVariants.{Report, Refused}
 use Rattle.answers.specs.Returned.{is_same, returned_of, returned}
 use Rattle.verdicts.specs.Verdicts.{verdict_on}
 use Rattle.two_starts.specs.TwoStarts.{StartsHeld, starts_ready}
 use Rattle.set_report.specs.ReportMade.{ReportMade}
-use Rattle.work_layout.specs.WorkLayout.{work_end, member_room, steps_at, steps_end}
-use Rattle.work_layout.specs.ClassLayout.{classes_in}
+use Rattle.trail_search.specs.WorkLayout.{work_end, member_room, steps_at, steps_end}
+use Rattle.trail_search.specs.ClassLayout.{classes_in}
 
 -- the side of a step is a byte
 side_small : (s : Side) → side_byte s < 256

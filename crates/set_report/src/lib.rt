@@ -1,4 +1,6 @@
 // The report on a set that stands in the work slice: rounds, verdict, trail and answer bytes.
+#![tactic(auto)]
+
 ghost use Rattle.two_starts.specs.TwoStarts.{StartsReady};
 ghost use Rattle.set_report.specs.ReportMade.{ReportMade};
 

@@ -4,23 +4,23 @@ use Rattle.std.specs.Prelude.{◌≡◌, refl, Bool, true, false, ℕ, suc, ◌�
 use Rattle.std.proofs.Math.Path.{sym, ap₂}
 use Rattle.std.proofs.Common.{ap, ◌∙◌, subst, arith}
 use mathlib.Core.List.{List, Memᴰ}
-use Rattle.list_laws.specs.TestLaws.{Tested, tested, passes, fails}
-use Rattle.list_laws.specs.Frames.{SameOutside, outside_then}
-use Rattle.list_laws.specs.Members.{same_equal, equal_same}
-use Rattle.lists.specs.Lists.{same_numbers}
-use Rattle.sheets.specs.Refusals.{short_answer}
-use Rattle.sheets.specs.SheetLimits.{max_threads}
-use Rattle.sheets.specs.Sheet.{Configuration, Sheet}
+use Rattle.sheet_types.specs.TestLaws.{Tested, tested, passes, fails}
+use Rattle.start_classes.specs.Frames.{SameOutside, outside_then}
+use Rattle.start_classes.specs.Members.{same_equal, equal_same}
+use Rattle.sheet_types.specs.Lists.{same_numbers}
+use Rattle.sheet_types.specs.Refusals.{short_answer}
+use Rattle.sheet_types.specs.SheetLimits.{max_threads}
+use Rattle.sheet_types.specs.Sheet.{Configuration, Sheet}
 use Rattle.sheet_types.specs.declared.Configuration as held
 use Rattle.sheet_types.specs.HeldSheet.{configuration}
-use Rattle.work_layout.specs.WorkLayout.{work_end}
-use Rattle.work_layout.specs.SetLayout.{SetHeld}
-use Rattle.work_layout.specs.ClassLayout.{classes_in}
-use Rattle.comparison.specs.Classes.{class_of, share, class_total}
-use Rattle.comparison.specs.Rounds.{classes, rounds, result_of}
-use Rattle.comparison_laws.specs.ResultLaws.{classes_from, result_is}
-use Rattle.kept_classes.specs.RoundLayout.{held_count_lem}
-use Rattle.dominators.specs.FoundMembers.{held_ordered}
+use Rattle.start_classes.specs.WorkLayout.{work_end}
+use Rattle.report_bytes.specs.SetLayout.{SetHeld}
+use Rattle.start_classes.specs.ClassLayout.{classes_in}
+use Rattle.start_classes.specs.Classes.{class_of, share, class_total}
+use Rattle.start_classes.specs.Rounds.{classes, rounds, result_of}
+use Rattle.report_bytes.specs.ResultLaws.{classes_from, result_is}
+use Rattle.class_rounds.specs.RoundLayout.{held_count_lem}
+use Rattle.start_classes.specs.FoundMembers.{held_ordered}
 use Rattle.class_rounds.specs.RoundsDone.{RoundsHeld, Refined, RoundReached, refined_outside}
 use Rattle.separations.specs.ReportClasses.{Renumbered, rounds_total}
 use Rattle.report_bytes.specs.AnswerMade.{made_refused, made_given}
@@ -28,7 +28,7 @@ use Rattle.report_bytes.specs.ReportLayout.{members_part}
 use Rattle.report_bytes.specs.ReportInSlice.{MembersHeld}
 use Rattle.report_bytes.specs.ReportInSliceLaws.{members_held, members_agree, held_members}
 use Rattle.report_bytes.specs.BytesStored.{stored_front}
-use Rattle.text.specs.Slices.{Stored}
+use Rattle.start_classes.specs.Slices.{Stored}
 use Rattle.start_classes.specs.StartClasses.{class_held, MemberHeld}
 use Rattle.verdicts.specs.Verdicts.{verdict_in}
 use Rattle.two_starts.specs.TwoStarts.{StartsHeld, starts_ready}

@@ -1,4 +1,6 @@
 // The answer after so many rounds, over a set that stands in the work slice: rounds, verdict and answer bytes.
+#![tactic(auto)]
+
 ghost use Rattle.two_starts.specs.TwoStarts.{StartsReady};
 ghost use Rattle.set_rounds.specs.RoundMade.{RoundMade};
 

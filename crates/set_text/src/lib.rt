@@ -1,6 +1,8 @@
 // A line that tells of a set in the work slice: how many members and moves it has, and a checksum over their numbers.
+#![tactic(auto)]
+
 ghost use Rattle.std.specs.Prelude.{◌≡◌, [], ◌∷◌, ◌+◌, ◌≤◌, get_or};
-ghost use Rattle.printed_lines.specs.Lines.{line};
+ghost use Rattle.text.specs.Lines.{line};
 ghost use Rattle.text.specs.Slices.{Written};
 ghost use Rattle.set_text.specs.SetText.{mixed_of, mix_all, mix_moves, checksum_of, whole_word};
 

@@ -3,10 +3,10 @@ use Rattle.std.specs.Prelude.{◌≡◌, ℕ, suc, ◌<◌, length, get_or}
 use Rattle.std.proofs.Common.{⊎_elim, arith}
 use mathlib.Core.List.Memᴰ
 use mathlib.Core.List.{List, [], ◌∷◌, ◌++◌, Memᴰ}
-use Rattle.list_laws.specs.Members.{mem_concat_map}
-use Rattle.sheets.specs.Sheet.{Node, stop, tell, ask, both, either, Sheet}
-use Rattle.sheets.specs.SheetBytes.{word_bytes}
-use Rattle.sheets.specs.WellFormed.{Admissible}
+use Rattle.sheet_laws.specs.Members.{mem_concat_map}
+use Rattle.sheet_laws.specs.Sheet.{Node, stop, tell, ask, both, either, Sheet}
+use Rattle.sheet_laws.specs.SheetBytes.{word_bytes}
+use Rattle.sheet_laws.specs.WellFormed.{Admissible}
 use Rattle.sheet_laws.specs.OpeningLaws.{opened_inside}
 use Rattle.sheet_encoder.specs.Encoder.{NamesFit, rule_bytes, node_bytes, start_bytes, section_bytes, encode}
 

@@ -6,15 +6,15 @@ use mathlib.Core.List.Memᴰ
 use mathlib.Core.List.{List, [], ◌∷◌, ◌++◌, append_assoc, Memᴰ}
 use Rattle.std.proofs.Math.ListN.{get_or-append, get_or-eq_default}
 use Rattle.std.proofs.Math.Seq.{get_or-append_seam}
-use Rattle.list_laws.specs.TestLaws.{Tested, passes, fails, tested}
-use Rattle.list_laws.specs.AscendingLaws.{sort_up_same}
-use Rattle.lists.specs.Lists.{sort_up, concat_map}
-use Rattle.stores.specs.Stores.{Rule, Constraint, closure}
-use Rattle.store_laws.specs.StoreLaws.{closure_same}
-use Rattle.sheets.specs.SheetLimits.{max_facts, max_nodes, max_threads, max_kind, name_length, node_length}
-use Rattle.sheets.specs.Sheet.{Node, stop, tell, ask, both, either, Configuration, node_of, opened, opened_all}
-use Rattle.sheets.specs.SheetBytes.{Field, thread_count, set, kind, thread, width, word_bytes, Printable, FieldIs, NameIs, SectionIs, RuleIs, KindIs, is_stop, is_tell, is_ask, is_both, is_either, NodeFieldsAre, fields, threads_of, NodeIs, ThreadIs, StartIs, start}
-use Rattle.sheets.specs.WellFormed.{Process, RuleFits, NodeFits}
+use Rattle.sheet_laws.specs.TestLaws.{Tested, passes, fails, tested}
+use Rattle.sheet_laws.specs.AscendingLaws.{sort_up_same}
+use Rattle.sheet_laws.specs.Lists.{sort_up, concat_map}
+use Rattle.sheet_laws.specs.Stores.{Rule, Constraint, closure}
+use Rattle.sheet_laws.specs.StoreLaws.{closure_same}
+use Rattle.sheet_laws.specs.SheetLimits.{max_facts, max_nodes, max_threads, max_kind, name_length, node_length}
+use Rattle.sheet_laws.specs.Sheet.{Node, stop, tell, ask, both, either, Configuration, node_of, opened, opened_all}
+use Rattle.sheet_laws.specs.SheetBytes.{Field, thread_count, set, kind, thread, width, word_bytes, Printable, FieldIs, NameIs, SectionIs, RuleIs, KindIs, is_stop, is_tell, is_ask, is_both, is_either, NodeFieldsAre, fields, threads_of, NodeIs, ThreadIs, StartIs, start}
+use Rattle.sheet_laws.specs.WellFormed.{Process, RuleFits, NodeFits}
 use Rattle.sheet_laws.specs.Ranks.{OfParts, Part, Ranked, rank_of, parts_map}
 use Rattle.sheet_laws.specs.OpeningLaws.{opening_prefix, opened_inside}
 use Rattle.sheet_encoder.specs.Encoder.{rule_bytes, node_bytes, start_bytes}

@@ -1,11 +1,11 @@
 -- Document 01, "The sheet": a sheet written as bytes. A sheet that was read keeps no names of facts, so they are given.
 use Rattle.std.specs.Prelude.{◌≡◌, ℕ, ◌<◌, length, get_or}
 use mathlib.Core.List.{List, ◌∷◌, ◌++◌, Memᴰ}
-use Rattle.lists.specs.Lists.{concat_map}
-use Rattle.stores.specs.Stores.{Rule}
-use Rattle.sheets.specs.SheetLimits.{name_length}
-use Rattle.sheets.specs.Sheet.{Node, stop, tell, ask, both, either, Configuration, Sheet}
-use Rattle.sheets.specs.SheetBytes.{word_bytes, Printable}
+use Rattle.sheet_laws.specs.Lists.{concat_map}
+use Rattle.sheet_laws.specs.Stores.{Rule}
+use Rattle.sheet_laws.specs.SheetLimits.{name_length}
+use Rattle.sheet_laws.specs.Sheet.{Node, stop, tell, ask, both, either, Configuration, Sheet}
+use Rattle.sheet_laws.specs.SheetBytes.{word_bytes, Printable}
 
 -- a name for each fact: 8 bytes from 32 to 126
 pub record NamesFit (facts : ℕ) (names : List (List ℕ)) : Type 0 where

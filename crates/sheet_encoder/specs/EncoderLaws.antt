@@ -6,13 +6,13 @@ use mathlib.Core.List.Memᴰ
 use mathlib.Core.List.{List, ◌++◌, Memᴰ}
 use native.Mathlib.Omega.{arith}
 use Rattle.std.proofs.Math.ListN.{length-append}
-use Rattle.lists.specs.Lists.{concat_map}
-use Rattle.sheets.specs.SheetLimits.{max_facts, name_length}
-use Rattle.sheets.specs.Sheet.{Sheet}
-use Rattle.sheets.specs.SheetBytes.{fact_count, rule_count, node_count, start_count, Printable, RecordsAre, none, one_more, FactIs, RuleIs, NodeIs, StartIs, FactsAre, RulesAre, NodesAre, StartsAre, SectionsAre, sections, SheetIs}
-use Rattle.sheets.specs.WellFormed.{Admissible}
-use Rattle.sheet_reading.specs.Reading.{got, read_sheet}
-use Rattle.sheet_reading.specs.SheetRead.{sheet_reads}
+use Rattle.sheet_laws.specs.Lists.{concat_map}
+use Rattle.sheet_laws.specs.SheetLimits.{max_facts, name_length}
+use Rattle.sheet_laws.specs.Sheet.{Sheet}
+use Rattle.sheet_laws.specs.SheetBytes.{fact_count, rule_count, node_count, start_count, Printable, RecordsAre, none, one_more, FactIs, RuleIs, NodeIs, StartIs, FactsAre, RulesAre, NodesAre, StartsAre, SectionsAre, sections, SheetIs}
+use Rattle.sheet_laws.specs.WellFormed.{Admissible}
+use Rattle.sheet_laws.specs.Reading.{got, read_sheet}
+use Rattle.sheet_laws.specs.SheetRead.{sheet_reads}
 use Rattle.sheet_laws.specs.ReadingLaws.{written_admissible, well_formed_ranked}
 use Rattle.sheet_encoder.specs.Encoder.{NamesFit, rule_bytes, node_bytes, start_bytes, section_bytes, encode}
 use Rattle.sheet_encoder.specs.StandingBytes.{Stands, stands_whole, stands_front, stands_rest, facts_fit, rules_fit, nodes_fit, starts_fit, section_stands}

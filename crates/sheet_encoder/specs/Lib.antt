@@ -1,3 +1,5 @@
+pub use Rattle.sheet_laws.specs.FactsOutside
+pub use Rattle.sheet_laws.specs.OutsideLaws
 pub mod Encoder
 pub mod StandingBytes
 pub mod EncodedRecords

@@ -2,9 +2,9 @@
 use Rattle.std.specs.Prelude.{◌≡◌, refl, List, [], ◌∷◌, ◌++◌, ℕ, ◌+◌, ◌^◌, ◌≤◌, ◌<◌, length, get_or}
 use Rattle.std.proofs.Common.{sym, subst, ap, ◌∙◌, append_assoc, arith, length-append, pow_mono, get_or-append-add}
 use Rattle.std.proofs.Math.ListN.{get_or-append}
-use Rattle.lists.specs.Lists.{concat_map}
-use Rattle.sheets.specs.SheetLimits.{max_facts, max_rules, min_nodes, max_nodes, min_starts, max_starts, max_threads, max_kind}
-use Rattle.sheets.specs.SheetBytes.{Field, fact_count, rule_count, node_count, start_count, thread_count, set, kind, unused, node_below, thread, width, word, word_bytes, number_in, Wrong, many_facts_lem, many_rules_lem, absent_fact_lem, few_nodes, many_nodes, no_kind, node_not_below, no_such_thread, not_zero, few_starts, many_starts, many_threads_lem, FieldIs, Right, RecordsAre, none, one_more, SectionIs}
+use Rattle.sheet_laws.specs.Lists.{concat_map}
+use Rattle.sheet_laws.specs.SheetLimits.{max_facts, max_rules, min_nodes, max_nodes, min_starts, max_starts, max_threads, max_kind}
+use Rattle.sheet_laws.specs.SheetBytes.{Field, fact_count, rule_count, node_count, start_count, thread_count, set, kind, unused, node_below, thread, width, word, word_bytes, number_in, Wrong, many_facts_lem, many_rules_lem, absent_fact_lem, few_nodes, many_nodes, no_kind, node_not_below, no_such_thread, not_zero, few_starts, many_starts, many_threads_lem, FieldIs, Right, RecordsAre, none, one_more, SectionIs}
 use Rattle.sheet_encoder.specs.Encoder.{section_bytes}
 
 -- the bytes xs stand in s from a place on

@@ -1,8 +1,10 @@
 // The fields of a sheet: each gives its value and the place after it, or the refusal of document 01.
+#![tactic(auto)]
+
 ghost use Rattle.std.specs.Prelude.{◌≡◌, ◌+◌, ◌≤◌, ◌<◌, length};
 ghost use Rattle.sheet_types.specs.HeldSheet.{answer};
-ghost use Rattle.sheets.specs.SheetLimits.{max_facts, name_length};
-ghost use Rattle.sheet_reading.specs.Reading.{byte_at, word_at, count_at, set_at, kind_at, first_at, second_at, thread_at, printable, name_bytes, name_at, names_from, facts_at};
+ghost use Rattle.sheet_laws.specs.SheetLimits.{max_facts, name_length};
+ghost use Rattle.sheet_laws.specs.Reading.{byte_at, word_at, count_at, set_at, kind_at, first_at, second_at, thread_at, printable, name_bytes, name_at, names_from, facts_at};
 ghost use Rattle.sheet_laws.specs.NodeFields.{unused_at, below_at};
 
 use sheet_types::{Section, Sheet};

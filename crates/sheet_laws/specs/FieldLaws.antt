@@ -6,9 +6,9 @@ use Rattle.std.proofs.Common.{suc-mul, mul-le-mul_right}
 use native.Mathlib.Omega.{arith}
 use Rattle.std.proofs.Math.Dec.{leb, ltb}
 use borrow.Author.Tests.{ltb-false, leb-false, eqb-true, eqb-false, not-false, ne_eqb}
-use Rattle.list_laws.specs.TestLaws.{or_false}
-use Rattle.sheets.specs.SheetLimits.{max_facts, name_length, max_kind}
-use Rattle.sheets.specs.SheetBytes.{word}
+use Rattle.store_laws.specs.TestLaws.{or_false}
+use Rattle.sheet_reading.specs.SheetLimits.{max_facts, name_length, max_kind}
+use Rattle.sheet_reading.specs.SheetBytes.{word}
 use Rattle.sheet_reading.specs.Reading.{got, refused, refused_if, byte_at, word_at, count_at, set_at, kind_at, first_at, second_at, thread_at, printable, name_bytes, name_at, names_from, facts_at}
 use Rattle.sheet_laws.specs.NodeFields.{unused_at, below_at}
 use Rattle.sheet_laws.specs.Gets.{Gets, gets_less, got_gets, checked_gets, then_gets, then_checked_gets}

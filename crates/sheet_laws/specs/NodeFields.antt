@@ -1,9 +1,9 @@
 -- The reading of a node in parts: its two-byte fields that are not sets, and its fields without the check of its threads that
 -- comes after them.
 use Rattle.std.specs.Prelude.{◌≡◌, refl, Bool, List, [], ◌∷◌, ◌++◌, ℕ, length, ltb}
-use Rattle.stores.specs.Stores.{Rule}
-use Rattle.sheets.specs.SheetLimits.{max_threads}
-use Rattle.sheets.specs.Sheet.{Node, opened}
+use Rattle.store_laws.specs.Stores.{Rule}
+use Rattle.sheet_reading.specs.SheetLimits.{max_threads}
+use Rattle.sheet_reading.specs.Sheet.{Node, opened}
 use Rattle.sheet_reading.specs.Reading.{Reading, got, and_then, refused_if, word_at, unused, below, kind_at, first_at, second_at, node_from, node_at}
 use Rattle.sheet_laws.specs.RecordLaws.{then_regroup}
 

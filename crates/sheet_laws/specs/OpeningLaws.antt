@@ -5,12 +5,12 @@ use mathlib.Core.List.Memᴰ
 use mathlib.Core.List.{List, [], ◌∷◌, ◌++◌, Memᴰ}
 use Rattle.std.proofs.Math.ListN.{get_or-append, get_or-eq_default}
 use Rattle.std.proofs.Math.Seq.{get_or-append_seam}
-use Rattle.list_laws.specs.AscendingLaws.{sort_up_not_falling, sort_up_only}
-use Rattle.lists.specs.Lists.{concat_map}
-use Rattle.list_laws.specs.Members.{mem_concat_map}
-use Rattle.list_laws.specs.TestLaws.{Tested, passes, fails, tested}
-use Rattle.sheets.specs.Sheet.{Node, stop, tell, ask, both, either, node_of, opening_of, open_within, opened, opened_all}
-use Rattle.sheets.specs.WellFormed.{Process}
+use Rattle.store_laws.specs.AscendingLaws.{sort_up_not_falling, sort_up_only}
+use Rattle.store_laws.specs.Lists.{concat_map}
+use Rattle.store_laws.specs.Members.{mem_concat_map}
+use Rattle.store_laws.specs.TestLaws.{Tested, passes, fails, tested}
+use Rattle.sheet_reading.specs.Sheet.{Node, stop, tell, ask, both, either, node_of, opening_of, open_within, opened, opened_all}
+use Rattle.sheet_reading.specs.WellFormed.{Process}
 use Rattle.sheet_laws.specs.Ranks.{OfParts, Part, Ranked, rank_of, parts_map}
 
 -- only what the parts open to matters

@@ -1,7 +1,7 @@
 -- A rank of nodes: a number that is lower for the parts of a both and of an either than for the node itself, so that whatever goes
 -- from a node to its parts ends.
 use Rattle.std.specs.Prelude.{List, ℕ, ◌<◌, length}
-use Rattle.sheets.specs.Sheet.{Node, stop, tell, ask, both, either, node_of}
+use Rattle.sheet_reading.specs.Sheet.{Node, stop, tell, ask, both, either, node_of}
 
 -- P holds of the nodes that a both or an either is made of
 abbrev pub OfParts : (ℕ → Type 0) → Node → Type 0

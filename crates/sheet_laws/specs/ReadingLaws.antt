@@ -4,14 +4,14 @@ use Rattle.std.specs.Prelude.{◌≡◌, refl, List, ℕ, ◌≤◌, ◌<◌, le
 use Rattle.std.proofs.Common.{arith}
 use Rattle.std.proofs.Math.ListN.{get_or-eq_default}
 use borrow.Author.Tests.{ltb-true, ltb-false, lt-ltb, le-ltb, le-leb, lt-leb}
-use Rattle.list_laws.specs.TestLaws.{Tested, passes, fails, tested}
-use Rattle.stores.specs.Stores.{Rule}
-use Rattle.sheets.specs.SheetLimits.{longest_sheet}
-use Rattle.sheets.specs.Sheet.{Node, stop, Configuration, Sheet, node_of}
-use Rattle.sheets.specs.SheetBytes.{SheetIs}
+use Rattle.store_laws.specs.TestLaws.{Tested, passes, fails, tested}
+use Rattle.store_laws.specs.Stores.{Rule}
+use Rattle.sheet_reading.specs.SheetLimits.{longest_sheet}
+use Rattle.sheet_reading.specs.Sheet.{Node, stop, Configuration, Sheet, node_of}
+use Rattle.sheet_reading.specs.SheetBytes.{SheetIs}
 use Rattle.sheet_reading.specs.SheetRead.{sheet_reads}
 use Rattle.sheet_reading.specs.Reading.{got, refused, facts_at, rules_at, nodes_at, starts_at, read_sheet, read_choice}
-use Rattle.sheets.specs.WellFormed.{WellFormed, Admissible}
+use Rattle.sheet_reading.specs.WellFormed.{WellFormed, Admissible}
 use Rattle.sheet_laws.specs.Ranks.{OfParts, Part, Ranked, rank_of, parts_map}
 use Rattle.sheet_laws.specs.Gets.{Gets, got_gets, checked_gets, then_gets}
 use Rattle.sheet_laws.specs.FieldLaws.{Taken, taken_then, facts_gets}

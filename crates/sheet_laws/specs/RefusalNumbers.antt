@@ -2,10 +2,10 @@
 use Rattle.std.specs.Prelude.{◌≡◌, refl, Bool, true, false, cond, not, ◌&&◌, ◌||◌, List, [], ◌∷◌, ◌++◌, ℕ, zero, suc, ◌+◌, ◌^◌, ◌≤◌, length, get_or, eqb, leb, ltb}
 use Rattle.std.proofs.Common.{subst, arith, leb-true}
 use Rattle.std.proofs.lemmas.Bool.{eqb-false, not-true}
-use Rattle.list_laws.specs.TestLaws.{and_left, and_right}
-use Rattle.stores.specs.Stores.{Rule, closure}
-use Rattle.sheets.specs.SheetLimits.{max_facts, max_rules, min_nodes, max_nodes, min_starts, max_starts, max_threads, name_length, max_kind}
-use Rattle.sheets.specs.Sheet.{Node, Configuration, Sheet, opened, opened_all}
+use Rattle.store_laws.specs.TestLaws.{and_left, and_right}
+use Rattle.store_laws.specs.Stores.{Rule, closure}
+use Rattle.sheet_reading.specs.SheetLimits.{max_facts, max_rules, min_nodes, max_nodes, min_starts, max_starts, max_threads, name_length, max_kind}
+use Rattle.sheet_reading.specs.Sheet.{Node, Configuration, Sheet, opened, opened_all}
 use Rattle.sheet_reading.specs.Reading.{Reading, got, refused, and_then, refused_if, records_from, byte_at, word_at, count_at, set_at, below, unused, printable, name_bytes, name_at, names_from, facts_at, rule_at, rules_at, kind_at, first_at, second_at, node_from, node_at, nodes_at, thread_at, threads_from, start_at, starts_at, read_sheet, read_choice}
 
 -- a number of the table

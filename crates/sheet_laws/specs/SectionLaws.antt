@@ -7,13 +7,13 @@ use Prim.Native.Nat.{ℕ, ◌+◌, ◌*◌, ◌^◌, ◌≤◌, ◌<◌}
 use Rattle.std.proofs.Math.ListN.{get_or-append}
 use Rattle.std.proofs.Math.Seq.{get_or-append_seam}
 use borrow.Author.Tests.{ltb-true, ltb-false, lt-ltb, le-ltb}
-use Rattle.list_laws.specs.TestLaws.{Tested, passes, fails, tested}
-use Rattle.stores.specs.Stores.{Rule, Constraint, closure}
+use Rattle.store_laws.specs.TestLaws.{Tested, passes, fails, tested}
+use Rattle.store_laws.specs.Stores.{Rule, Constraint, closure}
 use Rattle.store_laws.specs.StoreLaws.{closure_constraint, conclusions_lt}
-use Rattle.sheets.specs.SheetLimits.{max_rules, min_nodes, max_nodes, min_starts, max_starts, max_threads, rule_length, node_length, start_length}
-use Rattle.sheets.specs.Sheet.{Node, stop, tell, ask, both, either, Configuration, node_of, opened, opened_all}
+use Rattle.sheet_reading.specs.SheetLimits.{max_rules, min_nodes, max_nodes, min_starts, max_starts, max_threads, rule_length, node_length, start_length}
+use Rattle.sheet_reading.specs.Sheet.{Node, stop, tell, ask, both, either, Configuration, node_of, opened, opened_all}
 use Rattle.sheet_reading.specs.Reading.{Reading, got, refused, and_then, records_from, count_at, set_at, rule_at, rules_at, kind_at, first_at, second_at, node_from, node_at, nodes_at, thread_at, threads_from, start_at, starts_at}
-use Rattle.sheets.specs.WellFormed.{Process, RuleFits, NodeFits}
+use Rattle.sheet_reading.specs.WellFormed.{Process, RuleFits, NodeFits}
 use Rattle.sheet_laws.specs.Ranks.{Ranked, rank_of}
 use Rattle.sheet_laws.specs.OpeningLaws.{LowerNames, ranked_none, ranked_next, opening_prefix, opened_process}
 use Rattle.sheet_laws.specs.NodeFields.{node_fields_at, opens_to_many, node_checked}

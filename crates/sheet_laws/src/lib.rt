@@ -1,1 +1,2 @@
 // Reading a sheet and opening its nodes: laws. No functions.
+#![tactic(auto)]

@@ -1,14 +1,14 @@
 -- What the reader of a sheet finds: a refusal, or a sheet, from which two starts are chosen.
 use Rattle.std.specs.Prelude.{◌≡◌, List, ℕ, ◌≤◌, ◌<◌, length, get_or, replicate}
 use Rattle.std.proofs.Common.{sym, ap, ◌∙◌}
-use Rattle.list_laws.specs.Tabulate.{tabulate_length}
-use Rattle.set_closure.specs.RuleTable.{rule_in, rules_in}
-use Rattle.sheets.specs.SheetLimits.{max_rules}
-use Rattle.sheets.specs.Sheet as spec
-use Rattle.sheets.specs.SheetBytes.{ChoiceIs}
-use Rattle.sheet_reading.specs.Reading.{Reading, got, refused, read_sheet, read_choice}
-use Rattle.sheet_reading.specs.SheetRead.{sheet_reads, choice_reads}
-use Rattle.sheet_laws.specs.ReadingLaws.{choice_no_left, choice_no_right}
+use Rattle.sheet_types.specs.Tabulate.{tabulate_length}
+use Rattle.sheet_types.specs.RuleTable.{rule_in, rules_in}
+use Rattle.sheet_types.specs.SheetLimits.{max_rules}
+use Rattle.sheet_types.specs.Sheet as spec
+use Rattle.start_reader.specs.SheetBytes.{ChoiceIs}
+use Rattle.sheet_types.specs.Reading.{Reading, got, refused, read_sheet, read_choice}
+use Rattle.sheet_types.specs.SheetRead.{sheet_reads, choice_reads}
+use Rattle.sheet_fields.specs.ReadingLaws.{choice_no_left, choice_no_right}
 use Rattle.sheet_types.specs.HeldSheet.{nodes_in, configuration, no_configuration, sheet_of, sheet_read}
 use Rattle.sheet_types.specs.NodeTable.{nodes_of, table_end}
 use Rattle.sheet_types.specs.SectionLaws.{refused_with, refused_never, with_got}
@@ -16,7 +16,7 @@ use Rattle.sheet_types.specs.declared.Section.TheVariants.{Got, Refused}
 use Rattle.sheet_types.specs.declared.Section.{Section}
 use Rattle.sheet_types.specs.declared.Sheet.{Sheet}
 use Rattle.sheet_types.specs.declared.SheetRead.{SheetRead}
-use Rattle.movable_nodes.specs.NodeTables.{NodeTable}
+use Rattle.node_reader.specs.NodeTables.{NodeTable}
 use Rattle.start_reader.specs.StartsFound.{FewThreads}
 
 -- no facts, rules, nodes or starts

@@ -1,6 +1,8 @@
 // The whole sheet, and the choice of two starts. For every byte slice: the sheet, or the number and place of the one refusal.
+#![tactic(auto)]
+
 ghost use Rattle.std.specs.Prelude.{◌≡◌};
-ghost use Rattle.sheet_reading.specs.Reading.{read_sheet, read_choice};
+ghost use Rattle.sheet_types.specs.Reading.{read_sheet, read_choice};
 ghost use Rattle.sheet_reader.specs.SheetFound.{SheetFound, unread};
 
 use sheet_types::{Configuration, NodesRead, RulesRead, Section, Sheet, SheetRead, TABLE_END};

@@ -1,7 +1,7 @@
 -- A name and the section of facts get and are refused what document 01 says of their bytes.
 use Rattle.std.specs.Prelude.{◌≡◌, Bool, not, ◌&&◌, List, [], ◌∷◌, ◌++◌, get_or, take, drop, leb}
 use Rattle.std.proofs.Math.Path.{refl, subst, ap}
-use Rattle.std.proofs.Common.{sym, ◌∙◌, length-take, length-drop, length-append, get_or_take, get_or-drop, ext_get_or}
+use Rattle.std.proofs.Common.{sym, ◌∙◌, length-take, length-drop, length-append, get_or-take, get_or-drop, ext_get_or}
 use Rattle.std.proofs.Math.Bool.{true, false}
 use Rattle.std.proofs.lemmas.Bool.{false≢true}
 use Prim.Native.Nat.{ℕ, zero, suc, ◌+◌, ◌≤◌, ◌<◌}
@@ -107,7 +107,7 @@ module _ (s : List ℕ) (at : ℕ) where
       record {
         stands = l;
         long = simp (length-take, length-drop) (omega (arith, l));
-        bytes = λ i k. (get_or_take name_length (drop at s) i 0 k ∙ get_or-drop at s i 0, h i k);
+        bytes = λ i k. (get_or-take name_length (drop at s) i 0 k ∙ get_or-drop at s i 0, h i k);
         after = refl;
       }
 
@@ -145,7 +145,7 @@ module _ (s : List ℕ) (at : ℕ) where
       let long : length (take name_length (drop at s)) ≡ name_length = simp (length-take, length-drop) (omega (arith, h.stands)) in
       ext_get_or 0 name (take name_length (drop at s)) (h.long ∙ sym long) (λ i l.
       let k : i < name_length = omega (arith, l, h.long) in
-      (h.bytes i k).0 ∙ sym (get_or_take name_length (drop at s) i 0 k ∙ get_or-drop at s i 0))
+      (h.bytes i k).0 ∙ sym (get_or-take name_length (drop at s) i 0 k ∙ get_or-drop at s i 0))
 
 -- ---- the section: its names are records, and what is got is their number
 -- the name that stands there

@@ -1,7 +1,7 @@
 -- Document 01, "The sheet" and "Refused by the sheet or the choice": what reading a byte string gives, the sheet or the
 -- number and place of the first refusal. Fields are read in byte order, and a refusal ends the reading.
 use Rattle.std.specs.Prelude.{Bool, cond, not, ◌&&◌, ◌||◌, List, [], ◌∷◌, ◌++◌, ℕ, zero, suc, ◌+◌, ◌*◌, ◌^◌, length, get_or, eqb, leb, ltb}
-use Rattle.stores.specs.Stores.{Rule, closure}
+use Rattle.sheets.specs.Stores.{Rule, closure}
 use Rattle.sheets.specs.SheetLimits.{max_facts, max_rules, min_nodes, max_nodes, min_starts, max_starts, max_threads, max_kind, name_length, first_printable, last_printable}
 use Rattle.sheets.specs.Refusals.{cut_off_lem, many_facts, unprintable, many_rules, absent_fact, wrong_nodes, wrong_kind, wrong_node, used_field, wrong_starts, many_threads, bytes_left_lem, wide_node, absent_start}
 use Rattle.sheets.specs.SheetBytes.{word}

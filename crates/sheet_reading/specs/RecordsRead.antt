@@ -69,7 +69,7 @@ module _ {A : Type 0} (Is : Right A) (Refused : Refusing A) (n : ℕ) (item : Li
       rw ((each before at).is_refused number place (subst (λ (b : List A). Refused n b at number place) (append-nil before) h))
   records_refused {before} {number = number} {place = place} (suc m) l (one_more {rest = rest} {at = at} {mid = mid} {next = next} {r = r} i k) h =
       rw ((each before at).is_got r mid i)
-      (records_refused m (omega arith) k (subst (λ (b : List A). Refused n b next number place) (sym (append_assoc before (r ∷ []) rest)) h))
+      (records_refused {before = before ++ (r ∷ [])} m (omega arith) k (subst (λ (b : List A). Refused n b next number place) (sym (append_assoc before (r ∷ []) rest)) h))
 
 -- a count and its records
 pub section_reads : {A : Type 0} (count : Field) (Is : Right A) (Refused : Refusing A) (s : List ℕ) (at : ℕ) (counted : Reading ℕ)

@@ -4,7 +4,7 @@ use Rattle.std.proofs.Math.Path.{refl}
 use Rattle.std.proofs.Common.{sym, subst, ap, ◌∙◌, inl, inr, arith}
 use Rattle.std.proofs.Math.ListN.{length}
 use borrow.Author.Tests.{ltb-true, ltb-false, lt-ltb, le-ltb, leb-true, leb-false, le-leb, lt-leb, eqb-true, eqb-false}
-use Rattle.stores.specs.Stores.{Rule, closure}
+use Rattle.sheets.specs.Stores.{Rule, closure}
 use Rattle.sheets.specs.SheetLimits.{max_facts, max_rules, min_nodes, max_nodes, min_starts, max_starts, max_threads, max_kind}
 use Rattle.sheets.specs.Refusals.{many_rules, wrong_nodes, wrong_starts, many_threads, bytes_left_lem, wide_node, absent_start}
 use Rattle.sheets.specs.Sheet.{Node, stop, tell, ask, both, either, Configuration, Sheet, opened_all}
@@ -271,7 +271,7 @@ module _ (s : List ℕ) where
       )
 
   -- the starts end where the sheet does, or before
-  threads_within : {n at next : ℕ} {before rest : List ℕ} {nodes : ℕ} → RecordsAre (ThreadIs nodes s) n before at rest next → at ≤ length s → next ≤ length s
+  threads_within : {nodes n at next : ℕ} {before rest : List ℕ} → RecordsAre (ThreadIs nodes s) n before at rest next → at ≤ length s → next ≤ length s
   threads_within none h = h
   threads_within (one_more i k) h = threads_within k (omega (arith, i.stands, i.after))
 

@@ -1,8 +1,8 @@
 -- Document 01, "Known sheets", what the program prints: starts 0 and 1 compared, with room for every report.
 use Rattle.std.specs.Prelude.{◌≡◌, List, ℕ, ◌≤◌, length, take}
-use Rattle.comparison.specs.CallLimits.{limits, work_length, report_room}
-use Rattle.comparison.specs.Call.{compare}
-use Rattle.comparison.specs.Print.{printed}
+use Rattle.work_layout.specs.CallLimits.{limits, work_length, report_room}
+use Rattle.answers.specs.Call.{compare}
+use Rattle.answers.specs.Print.{printed}
 use Rattle.outcome_text.specs.TextRoom.{text_length, text_written}
 
 abbrev pub sheet_text : List ℕ → List ℕ

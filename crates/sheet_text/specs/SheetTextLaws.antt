@@ -1,9 +1,9 @@
 -- What the call returned and wrote is printed as its outcome.
 use Rattle.std.specs.Prelude.{◌≡◌, refl, List, ℕ, length}
 use Rattle.std.proofs.Common.{sym, ap₂, subst}
-use Rattle.comparison.specs.CallLimits.{limits, work_length, report_room}
-use Rattle.comparison.specs.Report.{Compares}
-use Rattle.comparison.specs.Call.{compare}
+use Rattle.work_layout.specs.CallLimits.{limits, work_length, report_room}
+use Rattle.work_layout.specs.Report.{Compares}
+use Rattle.answers.specs.Call.{compare}
 use Rattle.compare_call.specs.Compared.{Compared}
 use Rattle.answers.specs.declared.Answer.{Answer}
 use Rattle.outcome_text.specs.OutcomeText.{OutcomeWritten}

@@ -1,4 +1,6 @@
 // The text that the program prints of a sheet: its starts 0 and 1 compared.
+#![tactic(auto)]
+
 ghost use Rattle.std.specs.Prelude.{◌≡◌, length};
 ghost use Rattle.sheet_text.specs.SheetText.{SheetWritten};
 

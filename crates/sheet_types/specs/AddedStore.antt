@@ -3,9 +3,9 @@ use Rattle.std.specs.Prelude.{◌≡◌, List, ℕ, ◌%◌, ◌^◌, ◌≤◌,
 use Rattle.std.proofs.Common.{ap, ◌∙◌}
 use Rattle.std.specs.Int.Bits.{bit_or}
 use Rattle.std.proofs.lemmas.Nat.{or_lt}
-use Rattle.stores.specs.Stores.{conclusions}
-use Rattle.sheets.specs.Sheet as spec
-use Rattle.moves.specs.Moves.{add}
+use Rattle.closure_table.specs.Stores.{conclusions}
+use Rattle.sheet_reading.specs.Sheet as spec
+use Rattle.packing.specs.Moves.{add}
 use Rattle.closure_table.specs.ClosureTable.{Closures, closure_at}
 use Rattle.sheet_types.specs.declared.Configuration.{Configuration}
 use Rattle.sheet_types.specs.HeldSheet.{configuration}

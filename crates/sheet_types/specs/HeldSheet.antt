@@ -1,11 +1,11 @@
 -- What the reader's types stand for: the answers of document 01's readings, and the sheet that a struct holds.
 use Rattle.std.specs.Prelude.{◌≡◌, cond, List, [], ◌∷◌, ℕ, ◌+◌, ◌*◌, ◌<◌, length, get_or, take, drop, eqb}
-use Rattle.list_laws.specs.Tabulate.{tabulate}
-use Rattle.stores.specs.Stores.{Rule}
-use Rattle.sheets.specs.Sheet.{Node, stop, tell, ask, both, either, opened}
-use Rattle.sheets.specs.Sheet as spec
+use Rattle.packing.specs.Tabulate.{tabulate}
+use Rattle.closure_table.specs.Stores.{Rule}
+use Rattle.sheet_reading.specs.Sheet.{Node, stop, tell, ask, both, either, opened}
+use Rattle.sheet_reading.specs.Sheet as spec
 use Rattle.sheet_reading.specs.Reading.{Reading, got, refused}
-use Rattle.set_closure.specs.RuleTable.{rules_in}
+use Rattle.closure_table.specs.RuleTable.{rules_in}
 use Rattle.sheet_types.specs.declared.Section.{Section}
 use Rattle.sheet_types.specs.declared.Section.TheVariants.{Got, Refused}
 use Rattle.sheet_types.specs.declared.Configuration.{Configuration}

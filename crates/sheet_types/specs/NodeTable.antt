@@ -1,7 +1,7 @@
 -- The table of nodes: what its columns hold.
 use Rattle.std.specs.Prelude.{List, ℕ, ◌+◌, ◌*◌, get_or, take, drop}
-use Rattle.list_laws.specs.Tabulate.{tabulate}
-use Rattle.sheets.specs.SheetLimits.{max_nodes}
+use Rattle.packing.specs.Tabulate.{tabulate}
+use Rattle.sheet_reading.specs.SheetLimits.{max_nodes}
 
 -- where the columns begin, and the table's length; src/lib.rt has the same numbers for the code
 abbrev pub kinds_at : ℕ

@@ -1,12 +1,12 @@
 -- Laws of the table of nodes: what is read from a column, and what bytes stored in the table change.
 use Rattle.std.specs.Prelude.{◌≡◌, refl, ◌⊎◌, List, [], ◌∷◌, ℕ, suc, ◌+◌, ◌*◌, ◌≤◌, ◌<◌, get_or, set, take, drop}
-use Rattle.std.proofs.Common.{sym, ap, ap₂, ◌∙◌, inl, inr, arith, get_or_take, get_or-drop, drop_drop}
+use Rattle.std.proofs.Common.{sym, ap, ap₂, ◌∙◌, inl, inr, arith, get_or-take, get_or-drop, drop-drop}
 use Rattle.std.proofs.lemmas.List.Edits.{sets}
 use Rattle.std.proofs.Math.Seq.{take-set-lt}
 use Rattle.std.proofs.lemmas.List.{drop-set-add}
-use Rattle.list_laws.specs.Tabulate.{tabulate_at}
-use Rattle.list_laws.specs.Frames.{outside_set, outside_part}
-use Rattle.sheets.specs.SheetLimits.{max_nodes}
+use Rattle.packing.specs.Tabulate.{tabulate_at}
+use Rattle.closure_table.specs.Frames.{outside_set, outside_part}
+use Rattle.sheet_reading.specs.SheetLimits.{max_nodes}
 use Rattle.sheet_types.specs.NodeTable.{
   column,
   nodes_from,
@@ -21,7 +21,7 @@ use Rattle.sheet_types.specs.NodeTable.{
 
 -- ---- reading
 pub column_at : (c : ℕ) (t : List ℕ) (k : ℕ) → k < max_nodes → get_or (column c t) k 0 ≡ get_or t (c + k) 0
-column_at c t k l = get_or_take max_nodes (drop c t) k 0 l ∙ get_or-drop c t k 0
+column_at c t k l = get_or-take max_nodes (drop c t) k 0 l ∙ get_or-drop c t k 0
 
 pub first_at_lem : (t : List ℕ) (k : ℕ) → k < max_nodes
     → get_or (nodes_of t).firsts k 0 ≡ get_or t (first_lows_at + k) 0 + 256 * get_or t (first_highs_at + k) 0
@@ -31,7 +31,7 @@ first_at_lem t k l =
 
 -- the threads from one place on
 pub threads_from_lem : (t : List ℕ) (i : ℕ) → drop i (drop threads_at t) ≡ drop (threads_at + i) t
-threads_from_lem t i = drop_drop i threads_at t
+threads_from_lem t i = drop-drop i threads_at t
 
 -- ---- storing
 -- a byte stored outside a column

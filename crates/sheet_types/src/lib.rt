@@ -1,7 +1,9 @@
 // How a sheet that was read is held: types, the limits of a sheet, and a configuration as three numbers and back.
+#![tactic(auto)]
+
 ghost use Rattle.std.specs.Prelude.{◌≡◌, ◌≤◌, ◌<◌, length, get_or};
 ghost use Rattle.std.specs.Int.Bits.{bit_or};
-ghost use Rattle.sheets.specs.SheetLimits.{max_nodes};
+ghost use Rattle.sheet_reading.specs.SheetLimits.{max_nodes};
 ghost use Rattle.packing.specs.Packing.{stands_for, PackedIn};
 ghost use Rattle.sheet_types.specs.HeldSheet.{configuration};
 ghost use Rattle.sheet_types.specs.NodeTable.{nodes_of, opened_of, movables_of};

@@ -1,3 +1,6 @@
+pub use Rattle.stores.specs.FactSets
+pub use Rattle.lists.specs.Lists
+pub use Rattle.stores.specs.Stores
 pub mod Refusals
 pub mod SheetLimits
 pub mod Sheet

@@ -1,4 +1,6 @@
 // A byte widened, and the lesser and the greater of two numbers: one function for each width.
+#![tactic(auto)]
+
 ghost use Rattle.std.specs.Prelude.{◌≡◌, ◌<◌, min, max};
 
 // A byte as a wider number.

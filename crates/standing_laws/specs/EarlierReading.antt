@@ -8,18 +8,18 @@ use mathlib.Core.List.Memᴰ
 use mathlib.Core.List.{List, [], ◌∷◌, ◌++◌, Memᴰ}
 use Prim.Native.Nat.{ℕ, zero, suc}
 use Rattle.std.proofs.lemmas.Bool.{eqb-false}
-use Rattle.stores.specs.Stores.{Rule}
-use Rattle.sheets.specs.SheetLimits.{max_rules}
-use Rattle.sheets.specs.Refusals.{many_rules, bytes_left_lem}
-use Rattle.sheets.specs.Sheet.{Configuration, Sheet}
-use Rattle.sheet_reading.specs.Reading.{Reading, got, refused, and_then, refused_if, records_from, count_at, set_at, facts_at, rule_at, rules_at, nodes_at, starts_at, read_sheet, read_choice, from_nodes}
-use Rattle.sheets.specs.SheetBytes.{SheetIs}
-use Rattle.sheet_reading.specs.Sound.{got_not_refused}
-use Rattle.sheet_reading.specs.SheetRead.{sheet_reads}
-use Rattle.comparison.specs.CallLimits.{Limits}
-use Rattle.comparison.specs.Outcome.{Outcome}
-use Rattle.comparison.specs.Frame.{with_sheet}
-use Rattle.comparison.specs.Call.{after_reading, compare_with}
+use Rattle.comparison_laws.specs.Stores.{Rule}
+use Rattle.comparison_laws.specs.SheetLimits.{max_rules}
+use Rattle.comparison_laws.specs.Refusals.{many_rules, bytes_left_lem}
+use Rattle.comparison_laws.specs.Sheet.{Configuration, Sheet}
+use Rattle.comparison_laws.specs.Reading.{Reading, got, refused, and_then, refused_if, records_from, count_at, set_at, facts_at, rule_at, rules_at, nodes_at, starts_at, read_sheet, read_choice, from_nodes}
+use Rattle.comparison_laws.specs.SheetBytes.{SheetIs}
+use Rattle.comparison_laws.specs.Sound.{got_not_refused}
+use Rattle.comparison_laws.specs.SheetRead.{sheet_reads}
+use Rattle.comparison_laws.specs.CallLimits.{Limits}
+use Rattle.comparison_laws.specs.Outcome.{Outcome}
+use Rattle.comparison_laws.specs.Frame.{with_sheet}
+use Rattle.comparison_laws.specs.Call.{after_reading, compare_with}
 use Rattle.standing_laws.specs.EarlierSheets.{NoneStands, empty_premise, earlier_rule, earlier_rules, earlier_sheet, earlier_choice}
 
 -- ---- two readings, the earlier first: they are the same, or the earlier is refused 6 and what is got now has not the property

@@ -2,11 +2,11 @@
 -- premise.
 use Rattle.std.specs.Prelude.{◌≡◌, List, [], ◌∷◌, ℕ}
 use Rattle.std.proofs.Common.{ap}
-use Rattle.stores.specs.Stores.{join, least_store}
-use Rattle.store_laws.specs.StoreLaws.{least_store_empty}
-use Rattle.sheets.specs.Sheet.{tell, Configuration, Sheet}
-use Rattle.moves.specs.Moves.{Step, steps_of, Moves, Reduces}
-use Rattle.comparison.specs.SheetTransitions.{transitions}
+use Rattle.comparison_laws.specs.Stores.{join, least_store}
+use Rattle.comparison_laws.specs.StoreLaws.{least_store_empty}
+use Rattle.comparison_laws.specs.Sheet.{tell, Configuration, Sheet}
+use Rattle.comparison_laws.specs.Moves.{Step, steps_of, Moves, Reduces}
+use Rattle.comparison_laws.specs.SheetTransitions.{transitions}
 use Rattle.standing_laws.specs.EarlierSheets.{NoneStands, transitions_from, earlier_transitions}
 
 module _ (sheet : Sheet) (none : NoneStands sheet.rules) where

@@ -3,15 +3,15 @@
 -- store 0 hold of them (EarlierSentences). All else that a call does is made of these by definitions in which the least store does not stand.
 use Rattle.std.specs.Prelude.{◌≡◌, ℕ, eqb}
 use mathlib.Core.List.{List, [], Memᴰ}
-use Rattle.stores.specs.FactSets.{Within}
-use Rattle.stores.specs.Stores.{Rule, Constraint}
-use Rattle.sheets.specs.SheetLimits.{max_rules}
-use Rattle.sheets.specs.Refusals.{many_rules}
-use Rattle.sheets.specs.Sheet.{Configuration, Sheet}
-use Rattle.sheets.specs.WellFormed.{OfSheet}
-use Rattle.sheet_reading.specs.Reading.{Reading, got, and_then, refused_if, records_from, count_at, set_at, facts_at, from_nodes, chosen}
-use Rattle.moves.specs.Moves.{Moves, add}
-use Rattle.refinement.specs.Refinement.{Transitions}
+use Rattle.comparison_laws.specs.FactSets.{Within}
+use Rattle.comparison_laws.specs.Stores.{Rule, Constraint}
+use Rattle.comparison_laws.specs.SheetLimits.{max_rules}
+use Rattle.comparison_laws.specs.Refusals.{many_rules}
+use Rattle.comparison_laws.specs.Sheet.{Configuration, Sheet}
+use Rattle.comparison_laws.specs.WellFormed.{OfSheet}
+use Rattle.comparison_laws.specs.Reading.{Reading, got, and_then, refused_if, records_from, count_at, set_at, facts_at, from_nodes, chosen}
+use Rattle.comparison_laws.specs.Moves.{Moves, add}
+use Rattle.comparison_laws.specs.Refinement.{Transitions}
 
 -- no rule of the sheet has an empty premise
 abbrev pub NoneStands : List Rule → Type 0

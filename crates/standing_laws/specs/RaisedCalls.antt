@@ -2,16 +2,16 @@
 -- other, raised, where what it makes of the set is raised and as long.
 use Rattle.std.specs.Prelude.{◌≡◌, refl, Bool, true, false, cond, List, map, ℕ, suc, ◌+◌, length, ltb}
 use Rattle.std.proofs.Common.{sym, ap, ap₂, ◌∙◌, length-append}
-use Rattle.lists.specs.Lists.{concat_map}
-use Rattle.sheets.specs.Refusals.{large_set, short_answer, short_work}
-use Rattle.sheets.specs.Sheet.{Configuration, Sheet}
-use Rattle.sheets.specs.SheetBytes.{word_bytes}
-use Rattle.comparison.specs.CallLimits.{Limits, work_length}
-use Rattle.comparison.specs.Rounds.{classes}
-use Rattle.comparison.specs.Set.{explored, fits}
-use Rattle.comparison.specs.Outcome.{Outcome, reported, refusal}
-use Rattle.comparison.specs.Frame.{with_room, with_set, with_work}
-use Rattle.comparison.specs.Report.{members_bytes}
+use Rattle.comparison_laws.specs.Lists.{concat_map}
+use Rattle.comparison_laws.specs.Refusals.{large_set, short_answer, short_work}
+use Rattle.comparison_laws.specs.Sheet.{Configuration, Sheet}
+use Rattle.comparison_laws.specs.SheetBytes.{word_bytes}
+use Rattle.comparison_laws.specs.CallLimits.{Limits, work_length}
+use Rattle.comparison_laws.specs.Rounds.{classes}
+use Rattle.comparison_laws.specs.Set.{explored, fits}
+use Rattle.comparison_laws.specs.Outcome.{Outcome, reported, refusal}
+use Rattle.comparison_laws.specs.Frame.{with_room, with_set, with_work}
+use Rattle.comparison_laws.specs.Report.{members_bytes}
 use Rattle.comparison_laws.specs.ReportLaws.{members_length_lem}
 use Rattle.all_starts.specs.Grouping.{Grouping, grouping_bytes}
 use Rattle.after_rounds.specs.AfterRounds.{AfterRounds, after_bytes}

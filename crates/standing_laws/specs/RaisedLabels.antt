@@ -4,18 +4,18 @@ use Rattle.std.specs.Prelude.{◌≡◌, ℕ, ◌^◌, ◌<◌, ltb}
 use Rattle.std.proofs.Common.{sym, ap, ◌∙◌, subst, arith, ltb-true, lt-ltb}
 use mathlib.Core.List.{List, [], ◌∷◌, map, Memᴰ}
 use Rattle.std.proofs.lemmas.Nat.{or_lt}
-use Rattle.lists.specs.Lists.{Ascends, none_left, then_rest}
-use Rattle.list_laws.specs.Members.{mem_map, map_mem}
-use Rattle.list_laws.specs.AscendingLaws.{number_order, ascends_head, ascends_tail, ascends_unique}
-use Rattle.stores.specs.FactSets.{Within}
-use Rattle.stores.specs.Stores.{Rule, Constraint, conclusions, join, least_store}
-use Rattle.store_laws.specs.FactSetLaws.{within_trans, within_le}
-use Rattle.stores.specs.FactsOutside.{outside}
-use Rattle.store_laws.specs.OutsideLaws.{outside_within}
-use Rattle.store_laws.specs.StoreLaws.{join_left, join_right, join_closed, join_least, least_within}
-use Rattle.sheets.specs.Sheet.{Sheet}
-use Rattle.moves.specs.Moves.{labels}
-use Rattle.move_laws.specs.LabelLaws.{label_constraint, label_makes_true, label_below, label_minimal, labels_ascend, least_constraint}
+use Rattle.comparison_laws.specs.Lists.{Ascends, none_left, then_rest}
+use Rattle.comparison_laws.specs.Members.{mem_map, map_mem}
+use Rattle.comparison_laws.specs.AscendingLaws.{number_order, ascends_head, ascends_tail, ascends_unique}
+use Rattle.comparison_laws.specs.FactSets.{Within}
+use Rattle.comparison_laws.specs.Stores.{Rule, Constraint, conclusions, join, least_store}
+use Rattle.comparison_laws.specs.FactSetLaws.{within_trans, within_le}
+use Rattle.sheet_encoder.specs.FactsOutside.{outside}
+use Rattle.sheet_encoder.specs.OutsideLaws.{outside_within}
+use Rattle.comparison_laws.specs.StoreLaws.{join_left, join_right, join_closed, join_least, least_within}
+use Rattle.comparison_laws.specs.Sheet.{Sheet}
+use Rattle.comparison_laws.specs.Moves.{labels}
+use Rattle.comparison_laws.specs.LabelLaws.{label_constraint, label_makes_true, label_below, label_minimal, labels_ascend, least_constraint}
 use Rattle.standing_laws.specs.StandingFacts.{rule_without, sheet_without, raised}
 use Rattle.standing_laws.specs.RaisedSets.{Free, free_outside, outside_fills, raised_union, raised_outside, raised_has, raised_above, raised_least, free_in_raised, within_raised, raised_within, closed_raised, closed_outside, low_closed_outside, low_closed_raised, free_join, join_raised}
 

@@ -1,19 +1,19 @@
 -- The same number added to every store and label changes no order, no place and no class.
 use Rattle.std.specs.Prelude.{◌≡◌, Bool, not, ◌&&◌, length, get_or, eqb, ltb}
 use Rattle.std.proofs.Math.Path.{refl, sym, ap₂}
-use Rattle.std.proofs.Common.{ap, ◌∙◌, arith, eqb-true, eq_eqb, ltb-true, lt-ltb}
+use Rattle.std.proofs.Common.{ap, ◌∙◌, arith, eqb-true, eq-eqb, ltb-true, lt-ltb}
 use Rattle.std.proofs.Math.Bool.{true, false, cond}
 use mathlib.Core.List.{List, [], ◌∷◌, ◌++◌, map, map-append, Memᴰ}
 use Prim.Native.Nat.{ℕ, suc, ◌+◌}
 use Rattle.std.proofs.lemmas.List.{length-map}
-use Rattle.lists.specs.Lists.{arrange}
-use Rattle.list_laws.specs.TestLaws.{same_test}
-use Rattle.sheets.specs.Sheet.{Configuration}
-use Rattle.moves.specs.Orders.{Move, by_threads, configuration_before, move_before}
-use Rattle.comparison.specs.Classes.{position, numbered_from, numbered, same_configuration, place_of, class_of, share}
+use Rattle.comparison_laws.specs.Lists.{arrange}
+use Rattle.comparison_laws.specs.TestLaws.{same_test}
+use Rattle.comparison_laws.specs.Sheet.{Configuration}
+use Rattle.comparison_laws.specs.Orders.{Move, by_threads, configuration_before, move_before}
+use Rattle.comparison_laws.specs.Classes.{position, numbered_from, numbered, same_configuration, place_of, class_of, share}
 use Rattle.comparison_laws.specs.ClassLaws.{numbered_same}
 use Rattle.standing_laws.specs.StandingFacts.{raised, raised_configuration, raised_move}
-use Rattle.list_laws.specs.ImageLaws.{arrange_image}
+use Rattle.comparison_laws.specs.ImageLaws.{arrange_image}
 
 module _ {A B : Type 0} (f : A → B) where
   -- ---- places and numbers of images
@@ -55,8 +55,8 @@ less_raised z a b =
 pub equal_raised : (z a b : ℕ) → eqb (raised z a) (raised z b) ≡ eqb a b
 equal_raised z a b =
     same_test (eqb (a + z) (b + z)) (eqb a b)
-    (λ e. eq_eqb a b (omega (arith, eqb-true (a + z) (b + z) e)))
-    (λ e. eq_eqb (a + z) (b + z) (omega (arith, eqb-true a b e)))
+    (λ e. eq-eqb a b (omega (arith, eqb-true (a + z) (b + z) e)))
+    (λ e. eq-eqb (a + z) (b + z) (omega (arith, eqb-true a b e)))
 
 module _ (z : ℕ) where
   -- ---- orders and places

@@ -7,20 +7,20 @@ use mathlib.Core.List.{List, [], ◌∷◌, ◌++◌, map, map-append, Memᴰ}
 use Prim.Native.Nat.{ℕ, zero, suc, ◌<◌}
 use Rattle.std.proofs.lemmas.List.{length-map}
 use Rattle.std.proofs.Math.ListN.{get_or-map, get_or-eq_default}
-use Rattle.lists.specs.Lists.{arrange, sort_up}
-use Rattle.list_laws.specs.TestLaws.{Tested, passes, fails, tested}
-use Rattle.list_laws.specs.Members.{mem_map}
-use Rattle.list_laws.specs.AscendingLaws.{arrange_only}
-use Rattle.list_laws.specs.ImageLaws.{map_image, arrange_image}
-use Rattle.stores.specs.FactSets.{Within}
-use Rattle.stores.specs.Stores.{join, least_store}
-use Rattle.stores.specs.FactsOutside.{outside}
-use Rattle.store_laws.specs.StoreLaws.{least_within}
-use Rattle.sheets.specs.Sheet.{Node, stop, tell, ask, both, either, Configuration, Sheet, node_of, opening_of, open_within, opened}
-use Rattle.sheets.specs.WellFormed.{NodeFits, WellFormed}
-use Rattle.moves.specs.Orders.{Move, move_before}
-use Rattle.moves.specs.Moves.{labels, Step, beside, steps_of, steps_within, steps, move_of, moves_from, moves}
-use Rattle.move_laws.specs.OrderLaws.{move_order}
+use Rattle.comparison_laws.specs.Lists.{arrange, sort_up}
+use Rattle.comparison_laws.specs.TestLaws.{Tested, passes, fails, tested}
+use Rattle.comparison_laws.specs.Members.{mem_map}
+use Rattle.comparison_laws.specs.AscendingLaws.{arrange_only}
+use Rattle.comparison_laws.specs.ImageLaws.{map_image, arrange_image}
+use Rattle.comparison_laws.specs.FactSets.{Within}
+use Rattle.comparison_laws.specs.Stores.{join, least_store}
+use Rattle.sheet_encoder.specs.FactsOutside.{outside}
+use Rattle.comparison_laws.specs.StoreLaws.{least_within}
+use Rattle.comparison_laws.specs.Sheet.{Node, stop, tell, ask, both, either, Configuration, Sheet, node_of, opening_of, open_within, opened}
+use Rattle.comparison_laws.specs.WellFormed.{NodeFits, WellFormed}
+use Rattle.comparison_laws.specs.Orders.{Move, move_before}
+use Rattle.comparison_laws.specs.Moves.{labels, Step, beside, steps_of, steps_within, steps, move_of, moves_from, moves}
+use Rattle.comparison_laws.specs.OrderLaws.{move_order}
 use Rattle.comparison_laws.specs.SheetMoves.{conclusions_fit}
 use Rattle.standing_laws.specs.StandingFacts.{node_without, sheet_without, raised, raised_configuration, raised_move}
 use Rattle.standing_laws.specs.RaisedSets.{Free, free_empty, free_outside, free_join, raised_outside, below_raised, join_raised, least_without, least_raised}

@@ -7,16 +7,16 @@ use mathlib.Core.List.{List, [], ◌∷◌, map, Memᴰ}
 use Prim.Native.Nat.{ℕ, zero, suc, ◌+◌, ◌-◌, ◌*◌}
 use Rattle.std.proofs.lemmas.List.{length-map}
 use Rattle.std.proofs.Math.Dec.{eqb}
-use Rattle.lists.specs.Lists.{select}
-use Rattle.list_laws.specs.ImageLaws.{cond_image, select_image}
-use Rattle.sheets.specs.Sheet.{Configuration, Sheet}
-use Rattle.moves.specs.Orders.{Move}
-use Rattle.moves.specs.Moves.{moves}
-use Rattle.comparison.specs.CallLimits.{word_length, member_length, step_length}
-use Rattle.comparison.specs.Classes.{place_of}
-use Rattle.comparison.specs.Rounds.{redundant, answers, rounds, result_of, apart_in}
-use Rattle.comparison.specs.Trail.{Side, left, right, Reply, none, move, TrailStep, highest, highest_of, unanswered, reply_to, after, first_of, trail_from, trail}
-use Rattle.comparison.specs.Report.{Report, verdict_of, round_of, report_on, report_bytes}
+use Rattle.comparison_laws.specs.Lists.{select}
+use Rattle.comparison_laws.specs.ImageLaws.{cond_image, select_image}
+use Rattle.comparison_laws.specs.Sheet.{Configuration, Sheet}
+use Rattle.comparison_laws.specs.Orders.{Move}
+use Rattle.comparison_laws.specs.Moves.{moves}
+use Rattle.comparison_laws.specs.CallLimits.{word_length, member_length, step_length}
+use Rattle.comparison_laws.specs.Classes.{place_of}
+use Rattle.comparison_laws.specs.Rounds.{redundant, answers, rounds, result_of, apart_in}
+use Rattle.comparison_laws.specs.Trail.{Side, left, right, Reply, none, move, TrailStep, highest, highest_of, unanswered, reply_to, after, first_of, trail_from, trail}
+use Rattle.comparison_laws.specs.Report.{Report, verdict_of, round_of, report_on, report_bytes}
 use Rattle.comparison_laws.specs.TrailLaws.{unanswered_mem, reply_mem}
 use Rattle.comparison_laws.specs.ReportLaws.{members_length, report_length_lem}
 use Rattle.standing_laws.specs.StandingFacts.{raised, raised_configuration, raised_move, raised_reply, raised_step, raised_report}

@@ -7,14 +7,14 @@ use Rattle.std.proofs.Math.Bool.{true, false}
 use mathlib.Core.List.{List, [], ◌∷◌, map}
 use Prim.Native.Nat.{ℕ, zero, suc}
 use Rattle.std.proofs.lemmas.List.{length-map}
-use Rattle.lists.specs.Lists.{any, all, same_numbers}
-use Rattle.list_laws.specs.ImageLaws.{any_image, all_image}
-use Rattle.stores.specs.Stores.{strictly_below}
-use Rattle.sheets.specs.Sheet.{Configuration, Sheet}
-use Rattle.moves.specs.Orders.{Move}
-use Rattle.moves.specs.Moves.{moves, add}
-use Rattle.comparison.specs.Classes.{share}
-use Rattle.comparison.specs.Rounds.{stores_equal, redundant, answers, answered, together, refined, classes, rounds_from, rounds, apart_in}
+use Rattle.comparison_laws.specs.Lists.{any, all, same_numbers}
+use Rattle.comparison_laws.specs.ImageLaws.{any_image, all_image}
+use Rattle.comparison_laws.specs.Stores.{strictly_below}
+use Rattle.comparison_laws.specs.Sheet.{Configuration, Sheet}
+use Rattle.comparison_laws.specs.Orders.{Move}
+use Rattle.comparison_laws.specs.Moves.{moves, add}
+use Rattle.comparison_laws.specs.Classes.{share}
+use Rattle.comparison_laws.specs.Rounds.{stores_equal, redundant, answers, answered, together, refined, classes, rounds_from, rounds, apart_in}
 use Rattle.comparison_laws.specs.ClassLaws.{position_same}
 use Rattle.standing_laws.specs.StandingFacts.{raised, raised_configuration, raised_move}
 use Rattle.standing_laws.specs.RaisedSheets.{RaisedBy, AllIn}

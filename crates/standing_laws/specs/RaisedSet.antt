@@ -8,17 +8,17 @@ use mathlib.Core.List.Memᴰ
 use mathlib.Core.List.{List, [], ◌∷◌, ◌++◌, map, map-append, Memᴰ}
 use Prim.Native.Nat.{ℕ, zero, suc, ◌+◌}
 use Rattle.std.proofs.Math.ListN.{length, length-map}
-use Rattle.lists.specs.Lists.{select, concat_map, arrange}
-use Rattle.list_laws.specs.Members.{mem_select, mem_map, mem_concat_map}
-use Rattle.list_laws.specs.AscendingLaws.{arrange_only}
-use Rattle.list_laws.specs.ImageLaws.{any_image, select_image, map_image, concat_map_image}
-use Rattle.stores.specs.Stores.{strictly_below}
-use Rattle.sheets.specs.Sheet.{Configuration, Sheet}
-use Rattle.moves.specs.Orders.{Move, configuration_before}
-use Rattle.moves.specs.Moves.{moves, add}
-use Rattle.move_laws.specs.OrderLaws.{configuration_order}
-use Rattle.comparison.specs.CallLimits.{Limits}
-use Rattle.comparison.specs.Set.{added_below, reached, grown, over, explored_from, explored, move_count, fits}
+use Rattle.comparison_laws.specs.Lists.{select, concat_map, arrange}
+use Rattle.comparison_laws.specs.Members.{mem_select, mem_map, mem_concat_map}
+use Rattle.comparison_laws.specs.AscendingLaws.{arrange_only}
+use Rattle.comparison_laws.specs.ImageLaws.{any_image, select_image, map_image, concat_map_image}
+use Rattle.comparison_laws.specs.Stores.{strictly_below}
+use Rattle.comparison_laws.specs.Sheet.{Configuration, Sheet}
+use Rattle.comparison_laws.specs.Orders.{Move, configuration_before}
+use Rattle.comparison_laws.specs.Moves.{moves, add}
+use Rattle.comparison_laws.specs.OrderLaws.{configuration_order}
+use Rattle.comparison_laws.specs.CallLimits.{Limits}
+use Rattle.comparison_laws.specs.Set.{added_below, reached, grown, over, explored_from, explored, move_count, fits}
 use Rattle.standing_laws.specs.StandingFacts.{raised, raised_configuration, raised_move}
 use Rattle.standing_laws.specs.RaisedSheets.{RaisedBy, AllIn}
 use Rattle.standing_laws.specs.RaisedLists.{arrange_raised}

@@ -3,14 +3,14 @@ use Rattle.std.specs.Prelude.{◌≡◌, ℕ, min}
 use Rattle.std.proofs.Common.{sym, ap, ◌∙◌, subst, arith}
 use mathlib.Core.List.{List, map, Memᴰ}
 use Rattle.std.specs.Int.Bits.{bit_and, bit_or, and_zero_r, or_add_and}
-use Rattle.list_laws.specs.TestLaws.{same_test}
-use Rattle.list_laws.specs.Members.{mem_map, map_mem}
-use Rattle.stores.specs.FactSets.{digit, Within}
-use Rattle.stores.specs.Stores.{Rule, Obeys, Closed, closure, join, strictly_below, least_store}
-use Rattle.store_laws.specs.FactSetLaws.{digit_and, digit_or, zero_digit, set_ext, within_refl, within_trans, within_antisym, within_or_left, within_or_right, or_least}
-use Rattle.stores.specs.FactsOutside.{outside}
-use Rattle.store_laws.specs.OutsideLaws.{or_above, or_outside, outside_apart, outside_within}
-use Rattle.store_laws.specs.StoreLaws.{below_within, within_below, smallest_unique, closure_smallest, closure_closed, closure_includes, closure_least, closure_same}
+use Rattle.comparison_laws.specs.TestLaws.{same_test}
+use Rattle.comparison_laws.specs.Members.{mem_map, map_mem}
+use Rattle.comparison_laws.specs.FactSets.{digit, Within}
+use Rattle.comparison_laws.specs.Stores.{Rule, Obeys, Closed, closure, join, strictly_below, least_store}
+use Rattle.comparison_laws.specs.FactSetLaws.{digit_and, digit_or, zero_digit, set_ext, within_refl, within_trans, within_antisym, within_or_left, within_or_right, or_least}
+use Rattle.sheet_encoder.specs.FactsOutside.{outside}
+use Rattle.sheet_encoder.specs.OutsideLaws.{or_above, or_outside, outside_apart, outside_within}
+use Rattle.comparison_laws.specs.StoreLaws.{below_within, within_below, smallest_unique, closure_smallest, closure_closed, closure_includes, closure_least, closure_same}
 use Rattle.standing_laws.specs.StandingFacts.{rule_without, raised}
 
 -- a set that has no fact of z

@@ -1,10 +1,10 @@
 -- Two sheets of which one moves as the other does with z in every store and label.
 use Rattle.std.specs.Prelude.{◌≡◌, ℕ}
 use mathlib.Core.List.{List, map, Memᴰ}
-use Rattle.stores.specs.Stores.{strictly_below}
-use Rattle.sheets.specs.Sheet.{Configuration, Sheet}
-use Rattle.moves.specs.Orders.{Move}
-use Rattle.moves.specs.Moves.{moves, add}
+use Rattle.comparison_laws.specs.Stores.{strictly_below}
+use Rattle.comparison_laws.specs.Sheet.{Configuration, Sheet}
+use Rattle.comparison_laws.specs.Orders.{Move}
+use Rattle.comparison_laws.specs.Moves.{moves, add}
 use Rattle.standing_laws.specs.StandingFacts.{raised, raised_configuration, raised_move}
 
 -- Said of the stores and labels that are in `In`, which moves and additions do not leave.

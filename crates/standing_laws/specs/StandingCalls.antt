@@ -8,20 +8,20 @@ use mathlib.Core.List.{List, [], ◌∷◌, map, map-id, map-map, Memᴰ}
 use Prim.Native.Nat.{ℕ, suc, ◌<◌}
 use Rattle.std.proofs.Math.ListN.{get_or}
 use Rattle.std.proofs.lemmas.List.{length-map}
-use Rattle.lists.specs.Lists.{same_numbers}
-use Rattle.list_laws.specs.Members.{mem_map}
-use Rattle.list_laws.specs.ListPlaces.{get_d_in, get_d_image, map_alike}
-use Rattle.stores.specs.Stores.{least_store}
-use Rattle.store_laws.specs.StoreLaws.{least_within}
-use Rattle.sheets.specs.Refusals.{absent_start}
-use Rattle.sheets.specs.Sheet.{Configuration, Sheet, start}
-use Rattle.sheets.specs.WellFormed.{Admissible}
-use Rattle.sheet_reading.specs.Reading.{Reading, got, refused_if, chosen}
-use Rattle.comparison.specs.CallLimits.{Limits}
-use Rattle.comparison.specs.Classes.{class_of, share}
-use Rattle.comparison.specs.Rounds.{classes, rounds, result_of}
-use Rattle.comparison.specs.Outcome.{Outcome}
-use Rattle.comparison.specs.Frame.{with_room, with_set, with_work, with_sheet}
+use Rattle.comparison_laws.specs.Lists.{same_numbers}
+use Rattle.comparison_laws.specs.Members.{mem_map}
+use Rattle.comparison_laws.specs.ListPlaces.{get_d_in, get_d_image, map_alike}
+use Rattle.comparison_laws.specs.Stores.{least_store}
+use Rattle.comparison_laws.specs.StoreLaws.{least_within}
+use Rattle.comparison_laws.specs.Refusals.{absent_start}
+use Rattle.comparison_laws.specs.Sheet.{Configuration, Sheet, start}
+use Rattle.comparison_laws.specs.WellFormed.{Admissible}
+use Rattle.comparison_laws.specs.Reading.{Reading, got, refused_if, chosen}
+use Rattle.comparison_laws.specs.CallLimits.{Limits}
+use Rattle.comparison_laws.specs.Classes.{class_of, share}
+use Rattle.comparison_laws.specs.Rounds.{classes, rounds, result_of}
+use Rattle.comparison_laws.specs.Outcome.{Outcome}
+use Rattle.comparison_laws.specs.Frame.{with_room, with_set, with_work, with_sheet}
 use Rattle.all_starts.specs.Grouping.{Grouping, grouping_on}
 use Rattle.after_rounds.specs.AfterRounds.{SAME, DIFF, OPEN, AfterRounds, after_on}
 use Rattle.standing_laws.specs.StandingFacts.{configuration_without, sheet_without, raised_configuration, raised_grouping, raised_after, outcome_by}

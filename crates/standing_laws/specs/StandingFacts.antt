@@ -1,13 +1,13 @@
 -- Document 02, card 2: facts that always stand. They are the facts of the least store, z. Without them a sheet has the same facts and
 -- names, and no set of it has a fact of z; with them a report has z in every store and every label.
 use Rattle.std.specs.Prelude.{List, map, ℕ, ◌+◌}
-use Rattle.stores.specs.Stores.{Rule}
-use Rattle.stores.specs.FactsOutside.{outside}
-use Rattle.sheets.specs.Sheet.{Node, stop, tell, ask, both, either, Configuration, Sheet}
-use Rattle.moves.specs.Orders.{Move}
-use Rattle.comparison.specs.Outcome.{Outcome, reported, refusal}
-use Rattle.comparison.specs.Trail.{Reply, none, move, TrailStep}
-use Rattle.comparison.specs.Report.{Report}
+use Rattle.comparison_laws.specs.Stores.{Rule}
+use Rattle.sheet_encoder.specs.FactsOutside.{outside}
+use Rattle.comparison_laws.specs.Sheet.{Node, stop, tell, ask, both, either, Configuration, Sheet}
+use Rattle.comparison_laws.specs.Orders.{Move}
+use Rattle.comparison_laws.specs.Outcome.{Outcome, reported, refusal}
+use Rattle.comparison_laws.specs.Trail.{Reply, none, move, TrailStep}
+use Rattle.comparison_laws.specs.Report.{Report}
 use Rattle.all_starts.specs.Grouping.{Grouping}
 use Rattle.after_rounds.specs.AfterRounds.{AfterRounds}
 

@@ -5,20 +5,20 @@ use Rattle.std.proofs.Common.{sym, ap, ◌∙◌}
 use Rattle.std.proofs.Math.Path.{subst}
 use mathlib.Core.List.{List}
 use Rattle.std.proofs.Math.ListN.{length, length-map}
-use Rattle.stores.specs.Stores.{least_store}
-use Rattle.sheets.specs.Sheet.{Configuration, Sheet, start}
-use Rattle.sheets.specs.SheetBytes.{SheetIs}
-use Rattle.sheets.specs.WellFormed.{Admissible}
-use Rattle.sheet_reading.specs.Reading.{got, read_sheet, read_choice}
-use Rattle.sheet_reading.specs.SheetRead.{sheet_reads, one_sheet}
-use Rattle.sheet_laws.specs.ReadingLaws.{written_admissible}
-use Rattle.comparison.specs.CallLimits.{Limits}
-use Rattle.comparison.specs.Frame.{with_room, with_set, with_work}
-use Rattle.comparison.specs.Outcome.{reported}
-use Rattle.comparison.specs.Set.{explored}
-use Rattle.comparison.specs.Report.{Report, report_on, report_bytes}
-use Rattle.comparison.specs.Promise.{starts_of}
-use Rattle.comparison.specs.Call.{compare_with}
+use Rattle.comparison_laws.specs.Stores.{least_store}
+use Rattle.comparison_laws.specs.Sheet.{Configuration, Sheet, start}
+use Rattle.comparison_laws.specs.SheetBytes.{SheetIs}
+use Rattle.comparison_laws.specs.WellFormed.{Admissible}
+use Rattle.comparison_laws.specs.Reading.{got, read_sheet, read_choice}
+use Rattle.comparison_laws.specs.SheetRead.{sheet_reads, one_sheet}
+use Rattle.comparison_laws.specs.ReadingLaws.{written_admissible}
+use Rattle.comparison_laws.specs.CallLimits.{Limits}
+use Rattle.comparison_laws.specs.Frame.{with_room, with_set, with_work}
+use Rattle.comparison_laws.specs.Outcome.{reported}
+use Rattle.comparison_laws.specs.Set.{explored}
+use Rattle.comparison_laws.specs.Report.{Report, report_on, report_bytes}
+use Rattle.comparison_laws.specs.Promise.{starts_of}
+use Rattle.comparison_laws.specs.Call.{compare_with}
 use Rattle.comparison_laws.specs.CallTheorem.{reports_exactly}
 use Rattle.all_starts.specs.Grouping.{grouping_on, grouping_bytes, compare_all_with}
 use Rattle.after_rounds.specs.AfterRounds.{after_on, after_bytes, compare_rounds_with}

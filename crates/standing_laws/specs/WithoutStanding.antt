@@ -3,15 +3,15 @@ use Rattle.std.specs.Prelude.{◌≡◌, refl, ℕ, ◌+◌, ◌^◌, ◌≤◌,
 use Rattle.std.proofs.Common.{sym, ap, ap₂, ◌∙◌, subst, arith}
 use mathlib.Core.List.{List, [], ◌∷◌, map, Memᴰ}
 use Rattle.std.proofs.lemmas.List.{length-map}
-use Rattle.list_laws.specs.Members.{mem_map}
-use Rattle.stores.specs.Stores.{Rule, least_store}
-use Rattle.store_laws.specs.FactSetLaws.{within_le}
-use Rattle.stores.specs.FactsOutside.{outside}
-use Rattle.store_laws.specs.OutsideLaws.{outside_within}
-use Rattle.sheets.specs.Sheet.{Node, stop, tell, ask, both, either, Configuration, Sheet, node_of, opened}
-use Rattle.sheets.specs.SheetBytes.{SheetIs}
-use Rattle.sheets.specs.WellFormed.{Process, OfSheet, RuleFits, NodeFits, WellFormed, WithinLimits, Admissible}
-use Rattle.sheet_laws.specs.ReadingLaws.{written_admissible}
+use Rattle.comparison_laws.specs.Members.{mem_map}
+use Rattle.comparison_laws.specs.Stores.{Rule, least_store}
+use Rattle.comparison_laws.specs.FactSetLaws.{within_le}
+use Rattle.sheet_encoder.specs.FactsOutside.{outside}
+use Rattle.sheet_encoder.specs.OutsideLaws.{outside_within}
+use Rattle.comparison_laws.specs.Sheet.{Node, stop, tell, ask, both, either, Configuration, Sheet, node_of, opened}
+use Rattle.comparison_laws.specs.SheetBytes.{SheetIs}
+use Rattle.comparison_laws.specs.WellFormed.{Process, OfSheet, RuleFits, NodeFits, WellFormed, WithinLimits, Admissible}
+use Rattle.comparison_laws.specs.ReadingLaws.{written_admissible}
 use Rattle.sheet_encoder.specs.Encoder.{encode}
 use Rattle.sheet_encoder.specs.EncoderLaws.{encoded, encoded_again}
 use Rattle.standing_laws.specs.StandingFacts.{rule_without, node_without, configuration_without, sheet_without}

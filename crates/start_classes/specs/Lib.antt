@@ -1,2 +1,12 @@
+pub use Rattle.work_layout.specs.ClassLayout
+pub use Rattle.work_layout.specs.Classes
+pub use Rattle.dominators.specs.FoundMembers
+pub use Rattle.packing.specs.Frames
+pub use Rattle.packing.specs.Members
+pub use Rattle.work_layout.specs.Rounds
+pub use Rattle.report_records.specs.Slices
+pub use Rattle.report_records.specs.StoredText
+pub use Rattle.packing.specs.TabulateLaws
+pub use Rattle.work_layout.specs.WorkLayout
 pub mod StartClasses
 pub mod StartClassLaws

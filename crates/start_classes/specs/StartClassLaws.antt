@@ -2,11 +2,11 @@
 use Rattle.std.specs.Prelude.{◌≡◌, refl, ℕ, zero, suc, ◌+◌, ◌*◌, ◌<◌, length, get_or}
 use Rattle.std.proofs.Common.{sym, ap, ◌∙◌, subst, arith}
 use mathlib.Core.List.{List, [], ◌∷◌, ◌++◌, map, Memᴰ}
-use Rattle.lists.specs.Lists.{concat_map}
-use Rattle.list_laws.specs.Tabulate.{tabulate, tabulate_at}
-use Rattle.sheets.specs.Sheet as spec
-use Rattle.sheets.specs.SheetBytes.{word_bytes}
-use Rattle.comparison.specs.Classes.{place_of}
+use Rattle.packing.specs.Lists.{concat_map}
+use Rattle.packing.specs.Tabulate.{tabulate, tabulate_at}
+use Rattle.sheet_types.specs.Sheet as spec
+use Rattle.packing.specs.SheetBytes.{word_bytes}
+use Rattle.work_layout.specs.Classes.{place_of}
 use Rattle.packing.specs.declared.Numbers.{Numbers}
 use Rattle.packing.specs.Packing.{stands_for, PackedIn}
 use Rattle.sheet_types.specs.declared.Configuration.{Configuration}

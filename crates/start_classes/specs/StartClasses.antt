@@ -1,12 +1,12 @@
 -- The classes of starts, which are members of the set that stands in the work slice, and the bytes that document 02, card 1, has for them.
 use mathlib.Core.List.{List, Memᴰ}
 use Rattle.std.specs.Prelude.{ℕ, ◌≤◌, ◌<◌, length, get_or}
-use Rattle.lists.specs.Lists.{concat_map}
-use Rattle.list_laws.specs.Tabulate.{tabulate}
-use Rattle.sheets.specs.SheetLimits.{max_starts, max_threads}
-use Rattle.sheets.specs.Sheet as spec
-use Rattle.sheets.specs.SheetBytes.{word_bytes}
-use Rattle.comparison.specs.Classes.{class_of}
+use Rattle.packing.specs.Lists.{concat_map}
+use Rattle.packing.specs.Tabulate.{tabulate}
+use Rattle.sheet_types.specs.SheetLimits.{max_starts, max_threads}
+use Rattle.sheet_types.specs.Sheet as spec
+use Rattle.packing.specs.SheetBytes.{word_bytes}
+use Rattle.work_layout.specs.Classes.{class_of}
 use Rattle.sheet_types.specs.declared.Configuration.{Configuration}
 use Rattle.sheet_types.specs.HeldSheet.{configuration, no_configuration}
 use Rattle.work_layout.specs.WorkLayout.{work_end, member_room}

@@ -1,6 +1,8 @@
 // The classes of a sheet's starts as answer bytes, from a set that stands in the work slice with its classes.
+#![tactic(auto)]
+
 ghost use Rattle.std.specs.Prelude.{◌≡◌, ◌+◌, ◌*◌, ◌≤◌, length};
-ghost use Rattle.text.specs.Slices.{Stored};
+ghost use Rattle.report_records.specs.Slices.{Stored};
 ghost use Rattle.sheet_types.specs.HeldSheet.{configuration};
 ghost use Rattle.start_classes.specs.StartClasses.{class_held, starts_part, MemberHeld, StartsHeld};
 

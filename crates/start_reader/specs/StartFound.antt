@@ -1,14 +1,14 @@
 -- What the reader of a start finds, with the table of the nodes.
 use Rattle.std.specs.Prelude.{◌≡◌, refl, List, [], ◌∷◌, ◌++◌, ℕ, zero, suc, ◌≤◌, ◌<◌, length, get_or, take}
 use Rattle.std.proofs.Common.{sym, ap, ap₂, ◌∙◌, arith, take-suc}
-use Rattle.lists.specs.Lists.{sort_up, concat_map}
-use Rattle.list_laws.specs.AscendingLaws.{sort_up_length}
-use Rattle.list_laws.specs.SortingLaws.{concat_map_next}
-use Rattle.stores.specs.Stores.{Rule, closure}
-use Rattle.sheets.specs.SheetLimits.{max_threads, max_nodes}
-use Rattle.sheets.specs.Sheet.{Node, opened, opened_all}
-use Rattle.sheet_reading.specs.Reading.{got, refused, set_at, count_at, threads_from, start_at}
-use Rattle.sheet_laws.specs.SectionLaws.{start_no_threads, start_many, start_few}
+use Rattle.set_closure.specs.Lists.{sort_up, concat_map}
+use Rattle.sheet_types.specs.AscendingLaws.{sort_up_length}
+use Rattle.sheet_types.specs.SortingLaws.{concat_map_next}
+use Rattle.set_closure.specs.Stores.{Rule, closure}
+use Rattle.set_closure.specs.SheetLimits.{max_threads, max_nodes}
+use Rattle.sheet_types.specs.Sheet.{Node, opened, opened_all}
+use Rattle.sheet_types.specs.Reading.{got, refused, set_at, count_at, threads_from, start_at}
+use Rattle.sheet_fields.specs.SectionLaws.{start_no_threads, start_many, start_few}
 use Rattle.sheet_types.specs.HeldSheet.{opened_in, OpenedHeld, configuration, start_read}
 use Rattle.sheet_types.specs.NodeTable.{Opened}
 use Rattle.sheet_types.specs.SectionLaws.{refused_with, refused_never}

@@ -1,16 +1,16 @@
 -- The starts of a sheet: what the reader finds, and its loop.
 use Rattle.std.specs.Prelude.{◌≡◌, refl, Bool, true, false, List, [], ◌∷◌, ◌++◌, ℕ, ◌+◌, ◌-◌, ◌≤◌, ◌<◌, length, get_or, set, replicate, eqb}
-use Rattle.std.proofs.Common.{sym, ap, ◌∙◌, arith, length-set, get_or-set_same, get_or_set_other, ext_get_or, eqb-true}
+use Rattle.std.proofs.Common.{sym, ap, ◌∙◌, arith, length-set, get_or-set_same, get_or-set_other, ext_get_or, eqb-true}
 use Rattle.std.proofs.lemmas.Bool.{eqb-false}
-use Rattle.list_laws.specs.Tabulate.{tabulate_none, tabulate_next, tabulate_same, tabulate_length, tabulate_at}
-use Rattle.stores.specs.Stores.{Rule}
-use Rattle.sheets.specs.SheetLimits.{max_threads, min_starts, max_starts}
-use Rattle.sheets.specs.Refusals.{wrong_starts}
-use Rattle.sheets.specs.Sheet.{Node}
-use Rattle.sheets.specs.Sheet as spec
-use Rattle.sheet_reading.specs.Reading.{Reading, got, refused, count_at, start_at, records_from}
-use Rattle.sheet_laws.specs.RecordLaws.{records_none, records_refused, records_next}
-use Rattle.sheet_laws.specs.StoredRecords.{read_or, stored_from, stored_none, stored_refused, stored_next}
+use Rattle.sheet_types.specs.Tabulate.{tabulate_none, tabulate_next, tabulate_same, tabulate_length, tabulate_at}
+use Rattle.set_closure.specs.Stores.{Rule}
+use Rattle.set_closure.specs.SheetLimits.{max_threads, min_starts, max_starts}
+use Rattle.sheet_types.specs.Refusals.{wrong_starts}
+use Rattle.sheet_types.specs.Sheet.{Node}
+use Rattle.sheet_types.specs.Sheet as spec
+use Rattle.sheet_types.specs.Reading.{Reading, got, refused, count_at, start_at, records_from}
+use Rattle.sheet_fields.specs.RecordLaws.{records_none, records_refused, records_next}
+use Rattle.sheet_fields.specs.StoredRecords.{read_or, stored_from, stored_none, stored_refused, stored_next}
 use Rattle.sheet_types.specs.HeldSheet.{configuration, no_configuration, starts_in, starts_read, answer_with}
 use Rattle.sheet_types.specs.NodeTable.{Opened}
 use Rattle.sheet_types.specs.SectionLaws.{refused_with, refused_never}
@@ -93,8 +93,8 @@ starts_set cs i c long l =
     go j m false t =
         let d : j ≡ i → ⊥ = eqb-false j i t in
         tabulate_at (at (set cs i c)) 16 j none m
-        ∙ ap configuration (get_or_set_other cs i j c no_configuration d)
-        ∙ sym (get_or_set_other (starts_in cs 16) i j (configuration c) none d ∙ tabulate_at (at cs) 16 j none m)
+        ∙ ap configuration (get_or-set_other cs i j c no_configuration d)
+        ∙ sym (get_or-set_other (starts_in cs 16) i j (configuration c) none d ∙ tabulate_at (at cs) 16 j none m)
 
 -- the starts with one more are those before, and that one
 starts_with : (cs : List Configuration) (i : ℕ) (c : Configuration) → i < length cs → starts_in (set cs i c) (i + 1) ≡ starts_in cs i ++ (configuration c ∷ [])
@@ -102,7 +102,7 @@ starts_with cs i c l =
     tabulate_next (λ j. configuration (get_or (set cs i c) j no_configuration)) i
     ∙ ap (λ (xs : List spec.Configuration). xs ++ (configuration (get_or (set cs i c) i no_configuration) ∷ []))
     (tabulate_same (λ j. configuration (get_or (set cs i c) j no_configuration)) (λ j. configuration (get_or cs j no_configuration)) i
-    (λ j m. ap configuration (get_or_set_other cs i j c no_configuration (omega arith))))
+    (λ j m. ap configuration (get_or-set_other cs i j c no_configuration (omega arith))))
     ∙ ap (λ (x : Configuration). starts_in cs i ++ (configuration x ∷ [])) (get_or-set_same cs i c no_configuration l)
 
 -- one start, whatever stands before it
@@ -168,7 +168,7 @@ module _ (facts : ℕ) (rules : List Rule) (nodes : ℕ) (o : Opened) (n : ℕ) 
           go j m true t = rw (eqb-true j i t, get_or-set_same starts i r.start no_configuration room) (found.held v next a).1
           go j m false t =
               let other = eqb-false j i t in
-              rw (get_or_set_other starts i j r.start no_configuration other) (sofar.threads.at j (omega (arith, other)))
+              rw (get_or-set_other starts i j r.start no_configuration other) (sofar.threads.at j (omega (arith, other)))
 
     pub starts_end : i ≡ n → min_starts ≤ n → n ≤ max_starts → p ≤ length s
         → StartsFound (λ ns. records_from (start_item facts rules ns s) n [] at) (λ ns. stored_starts facts rules ns s n at) nodes o s

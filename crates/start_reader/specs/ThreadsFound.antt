@@ -1,10 +1,10 @@
 -- The thread bytes of a start: what the reader finds, and its loop.
 use Rattle.std.specs.Prelude.{◌≡◌, refl, Bool, true, false, List, [], ◌∷◌, ◌++◌, ℕ, ◌+◌, ◌-◌, ◌≤◌, ◌<◌, length, get_or, set, take, eqb}
-use Rattle.std.proofs.Common.{sym, ap, ◌∙◌, add-one, take-suc-set, get_or-set_same, get_or_set_other, eqb-true}
+use Rattle.std.proofs.Common.{sym, ap, ◌∙◌, add-one, take-suc-set, get_or-set_same, get_or-set_other, eqb-true}
 use native.Mathlib.Omega.{arith}
 use Rattle.std.proofs.lemmas.Bool.{eqb-false}
-use Rattle.sheet_reading.specs.Reading.{Reading, got, refused, thread_at, threads_from, records_from}
-use Rattle.sheet_laws.specs.RecordLaws.{records_none, records_refused, records_next}
+use Rattle.sheet_types.specs.Reading.{Reading, got, refused, thread_at, threads_from, records_from}
+use Rattle.sheet_fields.specs.RecordLaws.{records_none, records_refused, records_next}
 use Rattle.sheet_types.specs.HeldSheet.{threads_read}
 use Rattle.sheet_types.specs.SectionLaws.{refused_with, refused_never, with_got, with_refused}
 use Rattle.sheet_types.specs.declared.Section.TheVariants.{Got, Refused}
@@ -59,7 +59,7 @@ module _ (n nodes : ℕ) (s : List ℕ) (at : ℕ) where
         go j m true t = rw (eqb-true j i t, get_or-set_same threads i k 0 room) small
         go j m false t =
             let other = eqb-false j i t in
-            rw (get_or_set_other threads i j k 0 other) (sofar.below.at j (omega (arith, other)))
+            rw (get_or-set_other threads i j k 0 other) (sofar.below.at j (omega (arith, other)))
 
     pub threads_refused : {number place : ℕ} → i < n → thread_at nodes s p ≡ refused number place → (r : ThreadsRead) → r.answer ≡ Refused number place
         → ThreadsFound n nodes s at r

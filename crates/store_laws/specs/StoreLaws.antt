@@ -1,6 +1,6 @@
 -- Laws of closure, join and the least store.
 use Rattle.std.specs.Prelude.{◌≡◌, refl, Bool, true, false, cond, not, ℕ, zero, suc, ◌+◌, ◌^◌, ◌≤◌, ◌<◌, eqb}
-use Rattle.std.proofs.Common.{sym, ap, ◌∙◌, subst, ⊎_elim, arith, eqb-true, eq_eqb, ne_eqb}
+use Rattle.std.proofs.Common.{sym, ap, ◌∙◌, subst, ⊎_elim, arith, eqb-true, eq-eqb, ne_eqb}
 use mathlib.Core.List.Memᴰ
 use mathlib.Core.List.{List, [], ◌∷◌, ◌++◌, Memᴰ}
 use Rattle.std.specs.Int.Bits.{bit_or, or_add_and}
@@ -16,7 +16,7 @@ pub includes_within : (c a : ℕ) → includes c a ≡ true → Within a c
 includes_within c a h = and_within a c (eqb-true _ _ h)
 
 pub within_includes : {a c : ℕ} → Within a c → includes c a ≡ true
-within_includes h = eq_eqb _ _ (within_and h)
+within_includes h = eq-eqb _ _ (within_and h)
 
 pub below_within : (a b : ℕ) → strictly_below a b ≡ true → Within a b × (a ≡ b → ⊥)
 below_within a b h =

@@ -1,1 +1,2 @@
 // Sets of facts, closure, join and the least store: laws. No functions.
+#![tactic(auto)]

@@ -7,36 +7,36 @@ use mathlib.Core.List.{List, [], ◌∷◌, ◌++◌, map, Memᴰ}
 use Rattle.std.proofs.lemmas.List.{length-map}
 use Rattle.std.specs.Int.Bits.{bit_or}
 use Rattle.std.proofs.lemmas.Nat.{or_lt}
-use Rattle.lists.specs.Lists.{NotFalling, sort_up}
-use Rattle.list_laws.specs.AscendingLaws.{sort_up_same}
-use Rattle.list_laws.specs.Frames.{outside_same}
-use Rattle.list_laws.specs.Members.{mem_map, map_mem}
-use Rattle.stores.specs.Stores.{conclusions, closure, join}
-use Rattle.store_laws.specs.StoreLaws.{closure_lt, join_right}
-use Rattle.sheets.specs.Sheet.{Node, tell, ask, Sheet, node_of, opened}
-use Rattle.sheets.specs.WellFormed as well_formed
-use Rattle.sheet_laws.specs.Ranks.{Ranked}
-use Rattle.moves.specs.Orders.{Move}
-use Rattle.moves.specs.Moves.{labels}
-use Rattle.move_laws.specs.LabelLaws.{label_constraint, label_below}
-use Rattle.comparison_laws.specs.SheetMoves.{conclusions_fit}
-use Rattle.node_moves.specs.NodeMoves.{NodeBeside, placed_moves}
-use Rattle.node_moves.specs.NodeMoveLaws.{moves_of_tell, moves_of_ask}
-use Rattle.node_moves.specs.ThreadLaws.{sort_append_length, insert_all_sorts}
+use Rattle.move_entry.specs.Lists.{NotFalling, sort_up}
+use Rattle.sheet_types.specs.AscendingLaws.{sort_up_same}
+use Rattle.closure_table.specs.Frames.{outside_same}
+use Rattle.move_entry.specs.Members.{mem_map, map_mem}
+use Rattle.closure_table.specs.Stores.{conclusions, closure, join}
+use Rattle.closure_table.specs.StoreLaws.{closure_lt, join_right}
+use Rattle.sheet_types.specs.Sheet.{Node, tell, ask, Sheet, node_of, opened}
+use Rattle.sheet_types.specs.WellFormed as well_formed
+use Rattle.threads_beside.specs.Ranks.{Ranked}
+use Rattle.sheet_types.specs.Orders.{Move}
+use Rattle.label_moves.specs.Moves.{labels}
+use Rattle.threads_beside.specs.LabelLaws.{label_constraint, label_below}
+use Rattle.walk_state.specs.SheetMoves.{conclusions_fit}
+use Rattle.threads_beside.specs.NodeMoves.{NodeBeside, placed_moves}
+use Rattle.threads_beside.specs.NodeMoveLaws.{moves_of_tell, moves_of_ask}
+use Rattle.threads_beside.specs.ThreadLaws.{sort_append_length, insert_all_sorts}
 use Rattle.closure_table.specs.ClosureTable.{closure_at}
-use Rattle.number_lists.specs.NumberLists.{numbers_in}
-use Rattle.number_lists.specs.NumberLaws.{numbers_at_lem}
+use Rattle.move_entry.specs.NumberLists.{numbers_in}
+use Rattle.collected_moves.specs.NumberLaws.{numbers_at_lem}
 use Rattle.threads_beside.specs.declared.NodeBeside as held
 use Rattle.threads_beside.specs.declared.Beside.{Beside}
 use Rattle.threads_beside.specs.ThreadsBeside.{node_beside, PutBeside}
 use Rattle.ask_labels.specs.declared.Labelled.{Labelled}
-use Rattle.label_search.specs.AskLabels.{LabelsAre, part}
+use Rattle.ask_labels.specs.AskLabels.{LabelsAre, part}
 use Rattle.ask_labels.specs.LabelShelf.{ShelfRoom, LabelsGiven}
 use Rattle.ask_labels.specs.LabelShelfLaws.{sets_few}
 use Rattle.collected_moves.specs.declared.Running.{Running}
 use Rattle.collected_moves.specs.CollectedMoves.{Collecting, NotedOn, NoRoom}
-use Rattle.set_growth.specs.SetGrowth.{Growth}
-use Rattle.set_growth.specs.SetGrowthLaws.{move_threads_pass}
+use Rattle.walk_state.specs.SetGrowth.{Growth}
+use Rattle.walk_state.specs.SetGrowthLaws.{move_threads_pass}
 use Rattle.walk_state.specs.declared.Basis.{Basis}
 use Rattle.walk_state.specs.declared.Walk.{Walk}
 use Rattle.walk_state.specs.WalkState.{NodesOf, MemberFits, VisitFits, Walking, OnSheet, TurnOn, TurnOver}
@@ -44,7 +44,7 @@ use Rattle.walk_state.specs.PushedInWalk.{threads_joined}
 use Rattle.walk_state.specs.NotedInWalk.{NotedAll, AllPass, noted_one, pass_one, noted_turn, noted_over, walk_on, reshelved, shelf_walking, shelf_turn, shelf_turn_over}
 use Rattle.label_moves.specs.LabelMoves.{label_move, label_moves, LabelsStand}
 use Rattle.tell_ask_visits.specs.TellAskMoves.{tell_move}
-use Rattle.work_layout.specs.WorkLayout.{work_end, moves_at}
+use Rattle.collected_moves.specs.WorkLayout.{work_end, moves_at}
 
 -- ---- the table
 -- an entry of the table is a set of the facts

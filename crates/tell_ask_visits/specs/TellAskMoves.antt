@@ -1,9 +1,9 @@
 -- What a tell and an ask give, read off a slice that begins with a table of closures.
 use Rattle.std.specs.Prelude.{◌≡◌, List, [], ◌∷◌, ℕ, ◌%◌, get_or}
 use Rattle.std.specs.Int.Bits.{bit_or}
-use Rattle.sheets.specs.Sheet.{Node, ask, node_of, opened}
-use Rattle.moves.specs.Orders.{Move}
-use Rattle.node_moves.specs.NodeMoves.{NodeBeside}
+use Rattle.sheet_types.specs.Sheet.{Node, ask, node_of, opened}
+use Rattle.sheet_types.specs.Orders.{Move}
+use Rattle.threads_beside.specs.NodeMoves.{NodeBeside}
 use Rattle.sheet_types.specs.NodeTable.{opened_of}
 use Rattle.sheet_types.specs.HeldSheet.{opened_in}
 use Rattle.walk_state.specs.declared.Basis.{Basis}

@@ -1,12 +1,14 @@
 // Nodes that move by themselves: a tell and an ask, with threads beside them. What they give is noted.
+#![tactic(auto)]
+
 ghost use Rattle.std.specs.Prelude.{◌≤◌, ◌<◌, ◌^◌, get_or};
-ghost use Rattle.sheets.specs.Sheet.{tell};
-ghost use Rattle.sheet_laws.specs.Ranks.{rank_of};
+ghost use Rattle.sheet_types.specs.Sheet.{tell};
+ghost use Rattle.threads_beside.specs.Ranks.{rank_of};
 ghost use Rattle.sheet_types.specs.NodeTable.{opened_of};
 ghost use Rattle.threads_beside.specs.ThreadsBeside.{node_beside};
 ghost use Rattle.walk_state.specs.WalkState.{VisitFits, Walking, TurnedAs};
 ghost use Rattle.tell_ask_visits.specs.TellAskMoves.{AskTurned};
-ghost use Rattle.sheets.specs.SheetLimits.{max_nodes};
+ghost use Rattle.sheet_types.specs.SheetLimits.{max_nodes};
 
 use collected_moves::Noted;
 use label_moves::note_labels;

@@ -1,3 +1,4 @@
+pub use Rattle.dominators.specs.RoundLayout
 pub mod PlaceTests
 pub mod TrailLayout
 pub mod TrailPlaces

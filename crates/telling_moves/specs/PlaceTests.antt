@@ -2,11 +2,11 @@
 use Rattle.std.specs.Prelude.{◌≡◌, refl, Bool, true, false, cond, ◌||◌, List, [], ◌∷◌, ℕ, zero, suc, ◌+◌, ◌<◌, length, get_or, eqb}
 use Rattle.std.proofs.Common.{sym, ap, ◌∙◌, subst, arith, add-one, eqb-true}
 use Rattle.std.proofs.lemmas.Bool.{eqb-false}
-use Rattle.list_laws.specs.TestLaws.{true_false, or_left, or_right, or_fails, Tested, tested, passes, fails}
-use Rattle.lists.specs.Lists.{any, select}
-use Rattle.list_laws.specs.Members.{any_mem}
-use Rattle.list_laws.specs.ListPlaces.{get_d_in, any_nowhere}
-use Rattle.list_laws.specs.PlacesPassed.{HoldsFrom, FirstPlace}
+use Rattle.work_layout.specs.TestLaws.{true_false, or_left, or_right, or_fails, Tested, tested, passes, fails}
+use Rattle.dominators.specs.Lists.{any, select}
+use Rattle.dominators.specs.Members.{any_mem}
+use Rattle.dominators.specs.ListPlaces.{get_d_in, any_nowhere}
+use Rattle.work_layout.specs.PlacesPassed.{HoldsFrom, FirstPlace}
 
 -- some place below the count passes
 unfoldable pub some_below : (ℕ → Bool) → ℕ → Bool

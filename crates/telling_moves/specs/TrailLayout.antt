@@ -6,19 +6,19 @@ use Rattle.std.proofs.Common.{ap, ◌∙◌, inr}
 use Prim.Native.Nat.{ℕ, zero, suc, ◌+◌, ◌/◌, ◌%◌, ◌≤◌, ◌<◌, min, max}
 use native.Mathlib.Omega.{arith}
 use borrow.Author.Tests.{eqb-true, eqb-false}
-use Rattle.list_laws.specs.TestLaws.{Tested, tested, passes, fails}
-use Rattle.lists.specs.Lists.{Ascends}
-use Rattle.list_laws.specs.Frames.{SameOutside}
-use Rattle.sheets.specs.Sheet.{Configuration, Sheet}
-use Rattle.sheets.specs.WellFormed.{WellFormed}
-use Rattle.moves.specs.Orders.{configuration_before}
+use Rattle.work_layout.specs.TestLaws.{Tested, tested, passes, fails}
+use Rattle.dominators.specs.Lists.{Ascends}
+use Rattle.work_layout.specs.Frames.{SameOutside}
+use Rattle.dominators.specs.Sheet.{Configuration, Sheet}
+use Rattle.dominators.specs.WellFormed.{WellFormed}
+use Rattle.dominators.specs.Orders.{configuration_before}
 use Rattle.work_layout.specs.SetLayout.{member_at, move_total, first_move, SetHeld}
-use Rattle.comparison.specs.Rounds.{rounds, apart_in}
-use Rattle.comparison_laws.specs.RoundLaws.{ClosedList}
-use Rattle.comparison_laws.specs.ResultLaws.{result_is}
-use Rattle.kept_classes.specs.ClassBirths.{apart, apart_from_lem, Births, apart_same, apart_founders, apart_up}
-use Rattle.kept_classes.specs.ClassesPresent.{births_agree}
-use Rattle.kept_classes.specs.RoundLayout.{SameSet, same_set_low, held_same, held_member_same, held_count_lem}
+use Rattle.work_layout.specs.Rounds.{rounds, apart_in}
+use Rattle.dominators.specs.RoundLaws.{ClosedList}
+use Rattle.dominators.specs.ResultLaws.{result_is}
+use Rattle.dominators.specs.ClassBirths.{apart, apart_from_lem, Births, apart_same, apart_founders, apart_up}
+use Rattle.dominators.specs.ClassesPresent.{births_agree}
+use Rattle.dominators.specs.RoundLayout.{SameSet, same_set_low, held_same, held_member_same, held_count_lem}
 use Rattle.work_layout.specs.WorkLayout.{moves_at, classes_at, births_at, steps_at, steps_end, member_room}
 use Rattle.work_layout.specs.ClassLayout.{class_in, born_in, from_in_lem}
 

@@ -3,26 +3,26 @@ use Rattle.std.specs.Prelude.{◌≡◌, refl, Bool, true, false, not, ◌&&◌,
 use Rattle.std.proofs.Common.{sym, ap, ◌∙◌, arith, ltb-true, ltb-false}
 use Rattle.std.proofs.Math.Path.{ap₂, subst}
 use mathlib.Core.List.{List, [], ◌∷◌, Memᴰ}
-use Rattle.list_laws.specs.TestLaws.{true_false, and_left, and_right, Tested, tested, passes, fails}
-use Rattle.stores.specs.FactSets.{Within}
-use Rattle.stores.specs.Stores.{strictly_below, includes}
-use Rattle.store_laws.specs.StoreLaws.{below_within, includes_within, within_includes}
-use Rattle.sheets.specs.Sheet.{Configuration, Sheet}
-use Rattle.moves.specs.Orders.{Move}
-use Rattle.moves.specs.Moves.{moves, add}
+use Rattle.work_layout.specs.TestLaws.{true_false, and_left, and_right, Tested, tested, passes, fails}
+use Rattle.dominators.specs.FactSets.{Within}
+use Rattle.work_layout.specs.Stores.{strictly_below, includes}
+use Rattle.separations.specs.StoreLaws.{below_within, includes_within, within_includes}
+use Rattle.dominators.specs.Sheet.{Configuration, Sheet}
+use Rattle.dominators.specs.Orders.{Move}
+use Rattle.dominators.specs.Moves.{moves, add}
 use Rattle.work_layout.specs.SetLayout.{member_at, set_in, first_move, move_total, move_numbers_at, move_from}
-use Rattle.comparison.specs.Classes.{place_of, share}
-use Rattle.comparison.specs.Rounds.{redundant, answers, rounds, apart_in}
-use Rattle.comparison.specs.Trail.{unanswered}
-use Rattle.comparison.specs.SheetTransitions.{transitions}
-use Rattle.comparison_laws.specs.SheetMoves.{conclusions_fit}
-use Rattle.comparison_laws.specs.RoundLaws.{Sharing, sharing}
-use Rattle.comparison_laws.specs.ResultLaws.{rounds_at}
-use Rattle.comparison_laws.specs.TrailLaws.{apart_together, apart_at_lem}
-use Rattle.refinement_laws.specs.EarlierRounds.{round_earlier}
-use Rattle.kept_classes.specs.AddedStores.{added_is}
-use Rattle.kept_classes.specs.DominatingMoves.{dominates, passed_own, kept_redundant}
-use Rattle.kept_classes.specs.RoundLayout.{held_count_lem, held_in, held_found, held_place, number_in, move_at, moves_count, move_in, lifted_target, dominates_label, dominates_outside, lifted_in}
+use Rattle.work_layout.specs.Classes.{place_of, share}
+use Rattle.work_layout.specs.Rounds.{redundant, answers, rounds, apart_in}
+use Rattle.work_layout.specs.Trail.{unanswered}
+use Rattle.work_layout.specs.SheetTransitions.{transitions}
+use Rattle.dominators.specs.SheetMoves.{conclusions_fit}
+use Rattle.dominators.specs.RoundLaws.{Sharing, sharing}
+use Rattle.dominators.specs.ResultLaws.{rounds_at}
+use Rattle.dominators.specs.TrailLaws.{apart_together, apart_at_lem}
+use Rattle.dominators.specs.EarlierRounds.{round_earlier}
+use Rattle.dominators.specs.AddedStores.{added_is}
+use Rattle.dominators.specs.DominatingMoves.{dominates, passed_own, kept_redundant}
+use Rattle.dominators.specs.RoundLayout.{held_count_lem, held_in, held_found, held_place, number_in, move_at, moves_count, move_in, lifted_target, dominates_label, dominates_outside, lifted_in}
 use Rattle.dominators.specs.FoundMembers.{lifted_of, LiftedAt, lifted_there, held_ordered}
 use Rattle.dominators.specs.DominatorSearch.{comes_below}
 use Rattle.telling_moves.specs.PlaceTests.{some_below, some_yes, some_no, any_places, First, select_none, select_first}

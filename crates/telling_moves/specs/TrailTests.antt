@@ -1,10 +1,10 @@
 -- What each test of the trail comes to, way by way.
 use Rattle.std.specs.Prelude.{◌≡◌, Bool, true, false, not, ◌&&◌, ℕ, ◌+◌, ◌-◌, ◌/◌, ◌%◌, ◌≤◌, ◌<◌, length, get_or, ltb}
-use Rattle.std.proofs.Common.{sym, ap, ◌∙◌, subst, arith, eq_eqb, ne_eqb}
+use Rattle.std.proofs.Common.{sym, ap, ◌∙◌, subst, arith, eq-eqb, ne_eqb}
 use mathlib.Core.List.{List, Memᴰ}
-use Rattle.list_laws.specs.PlacesPassed.{holds_none, holds_next}
+use Rattle.work_layout.specs.PlacesPassed.{holds_none, holds_next}
 use Rattle.work_layout.specs.SetLayout.{first_move, move_total, move_numbers_at}
-use Rattle.kept_classes.specs.RoundLayout.{number_in}
+use Rattle.dominators.specs.RoundLayout.{number_in}
 use Rattle.dominators.specs.FoundMembers.{LiftedAt}
 use Rattle.dominators.specs.DominatorSearch.{comes_below}
 use Rattle.separations.specs.ApartClasses.{Falls}
@@ -148,7 +148,7 @@ module _ (w : List ℕ) (last r x y : ℕ) where
   pub answers_by : (a : ℕ) → x / 65536 ≡ y / 65536 → a ≡ apart_at w last (y % 65536) (x % 65536) → ltb r a ≡ answers_at w last r x y
   answers_by a e f =
       ap (ltb r) f
-      ∙ sym (ap (λ (b : Bool). b && ltb r (apart_at w last (y % 65536) (x % 65536))) (eq_eqb (x / 65536) (y / 65536) e))
+      ∙ sym (ap (λ (b : Bool). b && ltb r (apart_at w last (y % 65536) (x % 65536))) (eq-eqb (x / 65536) (y / 65536) e))
 
 module _ (w : List ℕ) (last r q y : ℕ) where
   -- none of the first k moves of q answers y

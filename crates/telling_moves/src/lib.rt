@@ -1,4 +1,6 @@
 // The moves of one member that tell it from another in a round: irredundant, and without an answer.
+#![tactic(auto)]
+
 ghost use Rattle.std.specs.Prelude.{◌≡◌, ◌%◌, ◌<◌};
 ghost use Rattle.work_layout.specs.SetLayout.{first_move, move_total};
 ghost use Rattle.telling_moves.specs.PlaceTests.{First};

@@ -1,3 +1,10 @@
+pub use Rattle.printed_lines.specs.Decimal
+pub use Rattle.printed_lines.specs.Lines
+pub use Rattle.list_laws.specs.ListPlaces
+pub use Rattle.list_laws.specs.Lists
+pub use Rattle.list_laws.specs.SortingLaws
+pub use Rattle.list_laws.specs.Tabulate
+pub use Rattle.list_laws.specs.TabulateLaws
 pub mod DecimalLaws
 pub mod Powers
 pub mod Slices

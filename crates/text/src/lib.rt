@@ -1,4 +1,6 @@
 // Lines of output as bytes: words, decimal numbers, spaces and the line feed (document 01, "Known sheets", the program).
+#![tactic(auto)]
+
 ghost use Rattle.std.specs.Prelude.{◌≡◌, List, [], ◌∷◌, ◌+◌, ◌%◌, ◌≤◌, ◌<◌, length};
 ghost use Rattle.printed_lines.specs.Decimal.{digit_byte, decimal};
 ghost use Rattle.text.specs.Powers.{FirstPlace};

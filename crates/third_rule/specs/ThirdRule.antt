@@ -2,23 +2,23 @@
 -- the first with b added is a member.
 use Rattle.std.specs.Prelude.{◌≡◌, Bool, true, not, ◌||◌, ℕ, ◌+◌, ◌-◌, ◌/◌, ◌^◌, ◌≤◌, ◌<◌, get_or, eqb}
 use mathlib.Core.List.{List, Memᴰ}
-use Rattle.list_laws.specs.Frames.{SameOutside}
-use Rattle.stores.specs.Stores.{strictly_below}
-use Rattle.sheets.specs.Sheet.{Configuration}
-use Rattle.moves.specs.Orders.{Move}
-use Rattle.moves.specs.Moves.{add}
-use Rattle.comparison.specs.Promise.{PassesLimit}
-use Rattle.closure_table.specs.ClosureTable.{Closures}
-use Rattle.label_search.specs.AskLabels.{TableOf}
+use Rattle.work_layout.specs.Frames.{SameOutside}
+use Rattle.work_layout.specs.Stores.{strictly_below}
+use Rattle.sheet_types.specs.Sheet.{Configuration}
+use Rattle.member_table.specs.Orders.{Move}
+use Rattle.member_table.specs.Moves.{add}
+use Rattle.work_layout.specs.Promise.{PassesLimit}
+use Rattle.sheet_types.specs.ClosureTable.{Closures}
+use Rattle.walk_state.specs.AskLabels.{TableOf}
 use Rattle.collected_moves.specs.declared.Running.{Running}
 use Rattle.collected_moves.specs.declared.Noted.{Noted}
 use Rattle.collected_moves.specs.declared.Noted.TheVariants.{On, Over}
 use Rattle.collected_moves.specs.CollectedMoves.{Collecting, Grown, members_of, moves_of, move_in_lem, move_numbers}
-use Rattle.set_growth.specs.SetGrowth.{Growth, Sound, InHand, Gathered}
+use Rattle.walk_state.specs.SetGrowth.{Growth, Sound, InHand, Gathered}
 use Rattle.walk_state.specs.declared.Basis.{Basis}
 use Rattle.walk_state.specs.WalkState.{MemberFits}
 use Rattle.work_layout.specs.WorkLayout.{table_length, moves_at, members_at}
-use Rattle.sheets.specs.SheetLimits.{max_facts}
+use Rattle.sheet_types.specs.SheetLimits.{max_facts}
 
 -- ---- what is asked of the slice
 -- Members and moves are in order, and speak of the sheet's facts; the slice begins with the table of closures.

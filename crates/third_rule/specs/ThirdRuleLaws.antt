@@ -6,39 +6,39 @@ use mathlib.Core.List.{List, Memᴰ}
 use Rattle.std.specs.Int.Bits.{bit_and, bit_or}
 use Rattle.std.proofs.lemmas.Nat.{or_lt}
 use Rattle.std.proofs.lemmas.Bool.{eqb-false, not-true}
-use Rattle.list_laws.specs.TestLaws.{true_false, or_false}
-use Rattle.list_laws.specs.TabulateLaws.{mem_tabulate}
-use Rattle.list_laws.specs.Members.{mem_map, map_mem}
-use Rattle.list_laws.specs.Frames.{SameOutside, outside_same, outside_again}
-use Rattle.stores.specs.FactSets.{Within}
-use Rattle.store_laws.specs.FactSetLaws.{and_within, within_and, within_le}
-use Rattle.stores.specs.Stores.{Closed, strictly_below, conclusions}
-use Rattle.store_laws.specs.StoreLaws.{below_within, within_below, within_join, closure_lt}
-use Rattle.sheets.specs.Sheet as spec
-use Rattle.moves.specs.Orders.{Move}
-use Rattle.moves.specs.Moves.{add}
-use Rattle.comparison_laws.specs.SheetMoves.{conclusions_fit}
-use Rattle.closure_table.specs.ClosureTable.{closure_at, closures_agree}
-use Rattle.label_search.specs.AskLabels.{TableOf}
-use Rattle.ask_labels.specs.LabelShelfLaws.{sets_few}
+use Rattle.work_layout.specs.TestLaws.{true_false, or_false}
+use Rattle.collected_moves.specs.TabulateLaws.{mem_tabulate}
+use Rattle.move_entry.specs.Members.{mem_map, map_mem}
+use Rattle.work_layout.specs.Frames.{SameOutside, outside_same, outside_again}
+use Rattle.walk_state.specs.FactSets.{Within}
+use Rattle.member_table.specs.FactSetLaws.{and_within, within_and, within_le}
+use Rattle.work_layout.specs.Stores.{Closed, strictly_below, conclusions}
+use Rattle.member_table.specs.StoreLaws.{below_within, within_below, within_join, closure_lt}
+use Rattle.sheet_types.specs.Sheet as spec
+use Rattle.member_table.specs.Orders.{Move}
+use Rattle.member_table.specs.Moves.{add}
+use Rattle.walk_state.specs.SheetMoves.{conclusions_fit}
+use Rattle.sheet_types.specs.ClosureTable.{closure_at, closures_agree}
+use Rattle.walk_state.specs.AskLabels.{TableOf}
+use Rattle.walk_state.specs.LabelShelfLaws.{sets_few}
 use Rattle.sheet_types.specs.declared.Configuration.{Configuration}
 use Rattle.sheet_types.specs.HeldSheet.{configuration}
 use Rattle.sheet_types.specs.AddedStore.{joined, joined_adds}
-use Rattle.number_lists.specs.NumberLaws.{numbers_at_lem, numbers_place, numbers_rise}
+use Rattle.collected_moves.specs.NumberLaws.{numbers_at_lem, numbers_place, numbers_rise}
 use Rattle.member_table.specs.MemberTable.{member_in}
 use Rattle.collected_moves.specs.declared.Running.{Running}
 use Rattle.collected_moves.specs.declared.Noted.{Noted}
 use Rattle.collected_moves.specs.declared.Noted.TheVariants.{On, Over}
 use Rattle.collected_moves.specs.CollectedMoves.{member_part, members_of, move_in_lem, move_numbers, moves_of, EnteredOn, EnteredAs}
 use Rattle.collected_moves.specs.CollectedLaws.{move_same, grown_refl, grown_trans}
-use Rattle.set_growth.specs.SetGrowth.{Growth, InSet, InHand, Gathered}
-use Rattle.set_growth.specs.SetGrowthLaws.{member_of_sheet, addition_in_set, grown_members, entered_moves, entered_gathered, no_room_for_passes}
+use Rattle.walk_state.specs.SetGrowth.{Growth, InSet, InHand, Gathered}
+use Rattle.walk_state.specs.SetGrowthLaws.{member_of_sheet, addition_in_set, grown_members, entered_moves, entered_gathered, no_room_for_passes}
 use Rattle.walk_state.specs.declared.Basis.{Basis}
 use Rattle.walk_state.specs.declared.Walk.{Walk}
 use Rattle.walk_state.specs.WalkState.{MemberFits, ThreadsFit, Walking}
 use Rattle.third_rule.specs.ThirdRule.{Standing, OnTable, number_at, label_at, move_at, is_first, NewLabel, OnlyMembers, AddedOn, AddedOver, Added, AtPlace, BeforePlace, ByFirst, ByEarlier, AllAddedOn}
 use Rattle.work_layout.specs.WorkLayout.{table_length, moves_at, members_at, move_room}
-use Rattle.sheets.specs.SheetLimits.{max_facts}
+use Rattle.sheet_types.specs.SheetLimits.{max_facts}
 
 -- ---- the slice of a walk stands so
 pub walking_standing : {rank : ℕ → ℕ} {w : List ℕ} {b : Basis} {s : Walk} → Walking rank w b s → Standing w b s.running

@@ -1,5 +1,7 @@
 // The third rule of the set: where a member has moves with labels a and b, a strictly below b, the target of the first with b
 // added is a member.
+#![tactic(auto)]
+
 ghost use Rattle.std.specs.Prelude.{◌≡◌, ◌+◌, ◌≤◌, ◌<◌, length};
 ghost use Rattle.third_rule.specs.ThirdRule.{Standing, NewLabel, Added, AllAdded, AtPlace, BeforePlace, ByFirst, label_at, is_first};
 ghost use Rattle.work_layout.specs.WorkLayout.{moves_at, move_room};

@@ -1,6 +1,6 @@
 -- Numbers moved down by one place, so that one of them is taken out.
 use Rattle.std.specs.Prelude.{◌≡◌, refl, Bool, true, false, List, [], ◌∷◌, ℕ, zero, suc, ◌+◌, ◌-◌, ◌≤◌, ◌<◌, length, get_or, set, take, eqb, ltb}
-use Rattle.std.proofs.Common.{sym, ap, ◌∙◌, arith, add-one, length-set, length-take, get_or-set_same, get_or_set_other, get_or_take, ext_get_or, eqb-true, ltb-true, ltb-false}
+use Rattle.std.proofs.Common.{sym, ap, ◌∙◌, arith, add-one, length-set, length-take, get_or-set_same, get_or-set_other, get_or-take, ext_get_or, eqb-true, ltb-true, ltb-false}
 use Rattle.std.proofs.lemmas.Bool.{eqb-false}
 use Rattle.node_moves.specs.ThreadLaws.{rest_without, rest_without_length}
 
@@ -22,7 +22,7 @@ shifted_next v i j w x l keeps takes s =
       long = length-set w j x ∙ s.long;
       low = λ k m. kept k m (eqb k j) refl;
       moved = λ k m n. next k m n (eqb k j) refl;
-      rest = λ k m. get_or_set_other w j k x 0 (omega arith) ∙ s.rest k (omega arith);
+      rest = λ k m. get_or-set_other w j k x 0 (omega arith) ∙ s.rest k (omega arith);
     }
   where
     kept : (k : ℕ) → k < i → (b : Bool) → eqb k j ≡ b → get_or (set w j x) k 0 ≡ get_or v k 0
@@ -31,7 +31,7 @@ shifted_next v i j w x l keeps takes s =
         rw r (get_or-set_same w j x 0 (omega (arith, s.long)) ∙ keeps (omega arith) ∙ s.rest j (omega arith))
     kept k m false e =
         let r = eqb-false k j e in
-        get_or_set_other w j k x 0 r ∙ s.low k m
+        get_or-set_other w j k x 0 r ∙ s.low k m
 
     next : (k : ℕ) → i ≤ k → k < j + 1 → (b : Bool) → eqb k j ≡ b → get_or (set w j x) k 0 ≡ get_or v (k + 1) 0
     next k m n true e =
@@ -39,7 +39,7 @@ shifted_next v i j w x l keeps takes s =
         rw r (get_or-set_same w j x 0 (omega (arith, s.long)) ∙ takes (omega arith) ∙ s.rest (j + 1) (omega arith))
     next k m n false e =
         let r = eqb-false k j e in
-        get_or_set_other w j k x 0 r ∙ s.moved k m (omega arith)
+        get_or-set_other w j k x 0 r ∙ s.moved k m (omega arith)
 
 -- ---- a list without the element at one place, place by place
 rest_without_low : (ts : List ℕ) (i k : ℕ) → k < i → get_or (rest_without ts i) k 0 ≡ get_or ts k 0
@@ -71,8 +71,8 @@ shifted_all v i j n w h e l s =
     at : (k : ℕ) → k < n - 1 → (b : Bool) → ltb k i ≡ b → get_or (take (n - 1) w) k 0 ≡ get_or (rest_without (take n v) i) k 0
     at k m true t =
         let u : k < i = ltb-true k i t in
-        get_or_take (n - 1) w k 0 m ∙ s.low k u ∙ sym (rest_without_low (take n v) i k u ∙ get_or_take n v k 0 (omega arith))
+        get_or-take (n - 1) w k 0 m ∙ s.low k u ∙ sym (rest_without_low (take n v) i k u ∙ get_or-take n v k 0 (omega arith))
     at k m false t =
         let u : i ≤ k = ltb-false k i t in
-        get_or_take (n - 1) w k 0 m ∙ s.moved k u (omega arith) ∙ ap (λ (x : ℕ). get_or v x 0) (add-one k)
-        ∙ sym (rest_without_high (take n v) i k u ∙ get_or_take n v (suc k) 0 (omega arith))
+        get_or-take (n - 1) w k 0 m ∙ s.moved k u (omega arith) ∙ ap (λ (x : ℕ). get_or v x 0) (add-one k)
+        ∙ sym (rest_without_high (take n v) i k u ∙ get_or-take n v (suc k) 0 (omega arith))

@@ -2,8 +2,8 @@
 -- beside it, and the threads of a node put among those beside another.
 use Rattle.std.specs.Prelude.{◌≡◌, true, false, List, ℕ, ◌+◌, length, get_or, take, leb}
 use Rattle.std.proofs.Common.{ap}
-use Rattle.list_laws.specs.SortingLaws.{insert_all}
-use Rattle.sheets.specs.Sheet.{Configuration}
+use Rattle.packing.specs.SortingLaws.{insert_all}
+use Rattle.sheet_types.specs.Sheet.{Configuration}
 use Rattle.node_moves.specs.NodeMoves as spec
 use Rattle.node_moves.specs.ThreadLaws.{rest_without}
 use Rattle.packing.specs.declared.Numbers.{Numbers}

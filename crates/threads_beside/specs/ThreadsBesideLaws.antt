@@ -2,7 +2,7 @@
 use Rattle.std.specs.Prelude.{◌≡◌, refl, true, false, List, ℕ, ◌+◌, ◌≤◌, ◌<◌, length, take, drop}
 use Rattle.std.proofs.Common.{sym, arith, length-take, length-drop, le-leb}
 use Rattle.std.proofs.lemmas.Bool.{lt-leb}
-use Rattle.list_laws.specs.SortingLaws.{insert_all}
+use Rattle.packing.specs.SortingLaws.{insert_all}
 use Rattle.threads_beside.specs.declared.NodeBeside.{NodeBeside}
 use Rattle.threads_beside.specs.ThreadsBeside.{PutBeside}
 

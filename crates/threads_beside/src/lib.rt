@@ -1,9 +1,11 @@
 // A node with threads beside it: as three numbers, threads put among those beside it, a thread of a configuration taken out.
+#![tactic(auto)]
+
 ghost use Rattle.std.specs.Prelude.{◌≡◌, ◌+◌, ◌≤◌, ◌<◌, length, get_or, take, drop};
-ghost use Rattle.lists.specs.Lists.{NotFalling};
-ghost use Rattle.list_laws.specs.SortingLaws.{insert_all};
+ghost use Rattle.packing.specs.Lists.{NotFalling};
+ghost use Rattle.packing.specs.SortingLaws.{insert_all};
 ghost use Rattle.packing.specs.Packing.{PackedIn};
-ghost use Rattle.sheets.specs.SheetLimits.{max_nodes};
+ghost use Rattle.sheet_types.specs.SheetLimits.{max_nodes};
 ghost use Rattle.sheet_types.specs.HeldSheet.{configuration, opened_in};
 ghost use Rattle.sheet_types.specs.NodeTable.{opened_of};
 ghost use Rattle.threads_beside.specs.ThreadsBeside.{node_beside, node_for, thread_at, PutBeside};

@@ -1,17 +1,17 @@
 -- The reply to a move by places: among the moves of the other with its label the one whose target is separated last, the
 -- earlier one on a tie.
 use Rattle.std.specs.Prelude.{◌≡◌, refl, Bool, true, false, cond, List, [], ◌∷◌, ◌++◌, map, ℕ, zero, suc, ◌+◌, ◌-◌, ◌/◌, ◌%◌, ◌≤◌, ◌<◌, eqb, ltb}
-use Rattle.std.proofs.Common.{sym, ap, ap₂, ◌∙◌, subst, arith, add-one, eq_eqb, ne_eqb}
-use Rattle.lists.specs.Lists.{select}
-use Rattle.list_laws.specs.Tabulate.{tabulate, tabulate_next, tabulate_none}
-use Rattle.number_lists.specs.NumberLaws.{numbers_tabulate}
-use Rattle.sheets.specs.Sheet.{Configuration, Sheet}
-use Rattle.moves.specs.Orders.{Move}
-use Rattle.moves.specs.Moves.{moves}
+use Rattle.std.proofs.Common.{sym, ap, ap₂, ◌∙◌, subst, arith, add-one, eq-eqb, ne_eqb}
+use Rattle.work_layout.specs.Lists.{select}
+use Rattle.work_layout.specs.Tabulate.{tabulate, tabulate_next, tabulate_none}
+use Rattle.work_layout.specs.NumberLaws.{numbers_tabulate}
+use Rattle.work_layout.specs.Sheet.{Configuration, Sheet}
+use Rattle.work_layout.specs.Orders.{Move}
+use Rattle.work_layout.specs.Moves.{moves}
 use Rattle.work_layout.specs.SetLayout.{member_at, first_move, move_total, move_numbers_at, move_from}
-use Rattle.comparison.specs.Rounds.{rounds, apart_in}
-use Rattle.comparison.specs.Trail.{Reply, none, move, highest, highest_of, reply_to}
-use Rattle.kept_classes.specs.RoundLayout.{number_in}
+use Rattle.work_layout.specs.Rounds.{rounds, apart_in}
+use Rattle.work_layout.specs.Trail.{Reply, none, move, highest, highest_of, reply_to}
+use Rattle.telling_moves.specs.RoundLayout.{number_in}
 use Rattle.telling_moves.specs.TrailLayout.{apart_at, TrailHeld}
 use Rattle.telling_moves.specs.TrailPlaces.{move_number}
 use Rattle.work_layout.specs.WorkLayout.{moves_at, member_room}
@@ -106,8 +106,8 @@ module _ {sheet : Sheet} {set : List Configuration} {w : List ℕ} {n m last : �
         → StandsFor w n (improved (value y) reply (move_from w x))
         (cond (eqb u 65535) (x % 65536) (cond (ltb (apart_at w last (y % 65536) u) (apart_at w last (y % 65536) (x % 65536))) (x % 65536) u))
     improves reply u (for_none e f) =
-        for_move (move_from w x) (ap (λ (r : Reply). improved (value y) r (move_from w x)) e) (rw (eq_eqb u 65535 f) lx)
-        (rw (eq_eqb u 65535 f))
+        for_move (move_from w x) (ap (λ (r : Reply). improved (value y) r (move_from w x)) e) (rw (eq-eqb u 65535 f) lx)
+        (rw (eq-eqb u 65535 f))
     improves reply u (for_move k e l t) =
         let few : n ≤ member_room = T.held.few.0 in
         let d : eqb u 65535 ≡ false = ne_eqb u 65535 (λ z. omega arith) in

@@ -1,6 +1,6 @@
 -- What the choice of the reply comes to, way by way.
 use Rattle.std.specs.Prelude.{◌≡◌, refl, Bool, true, false, cond, List, ℕ, ◌+◌, ◌-◌, ◌/◌, ◌%◌, ◌≤◌, ◌<◌, get_or, eqb, ltb}
-use Rattle.std.proofs.Common.{sym, ap, ap₂, ◌∙◌, subst, arith, eq_eqb, ne_eqb, lt-ltb, le-ltb}
+use Rattle.std.proofs.Common.{sym, ap, ap₂, ◌∙◌, subst, arith, eq-eqb, ne_eqb, lt-ltb, le-ltb}
 use Rattle.work_layout.specs.SetLayout.{first_move, move_total}
 use Rattle.telling_moves.specs.TrailLayout.{apart_at, PairFits}
 use Rattle.trail_replies.specs.Replies.{better_at, reply_below, reply_first, reply_next, better_keeps}
@@ -19,10 +19,10 @@ module _ (w : List ℕ) (last y best x : ℕ) where
 
   module _ (e : x / 65536 ≡ y / 65536) where
     same : eqb (x / 65536) (y / 65536) ≡ true
-    same = eq_eqb (x / 65536) (y / 65536) e
+    same = eq-eqb (x / 65536) (y / 65536) e
 
     pub better_only : best ≡ 65535 → x % 65536 ≡ better_at w last y best x
-    better_only z = sym (ap₂ (λ (s t : Bool). among s t later) same (eq_eqb best 65535 z))
+    better_only z = sym (ap₂ (λ (s t : Bool). among s t later) same (eq-eqb best 65535 z))
 
     module _ (d : best ≡ 65535 → ⊥) (a b : ℕ) (ea : a ≡ apart_at w last (y % 65536) best)
         (eb : b ≡ apart_at w last (y % 65536) (x % 65536)) where

@@ -1,4 +1,6 @@
 // The reply to a move: among the moves of the other with its label the one whose target is separated last.
+#![tactic(auto)]
+
 ghost use Rattle.std.specs.Prelude.{◌≡◌, ◌%◌};
 ghost use Rattle.telling_moves.specs.TrailLayout.{PairFits};
 ghost use Rattle.trail_replies.specs.Replies.{better_at, reply_at};

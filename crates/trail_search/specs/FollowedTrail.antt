@@ -1,16 +1,16 @@
 -- The trail followed from pair to pair: the steps stored so far, and those from the present pair, are the trail.
 use Rattle.std.specs.Prelude.{◌≡◌, refl, Bool, true, false, cond, List, [], ◌∷◌, ◌++◌, map, ℕ, suc, ◌+◌, ◌*◌, ◌-◌, ◌%◌, ◌≤◌, ◌<◌, length, get_or, set, eqb}
-use Rattle.std.proofs.Common.{sym, ap, ap₂, ◌∙◌, subst, inl, append_assoc, append-nil, arith, length-set, get_or-set_same, get_or_set_other}
+use Rattle.std.proofs.Common.{sym, ap, ap₂, ◌∙◌, subst, inl, append_assoc, append-nil, arith, length-set, get_or-set_same, get_or-set_other}
 use Rattle.std.proofs.lemmas.List.{length-map}
-use Rattle.list_laws.specs.Tabulate.{tabulate, tabulate_none, tabulate_next, tabulate_same, tabulate_length}
-use Rattle.list_laws.specs.Frames.{SameOutside, outside_same, outside_set, outside_wider, outside_again}
-use Rattle.sheets.specs.Sheet.{Configuration, Sheet}
+use Rattle.number_lists.specs.Tabulate.{tabulate, tabulate_none, tabulate_next, tabulate_same, tabulate_length}
+use Rattle.number_lists.specs.Frames.{SameOutside, outside_same, outside_set, outside_wider, outside_again}
+use Rattle.work_layout.specs.Sheet.{Configuration, Sheet}
 use Rattle.work_layout.specs.SetLayout.{member_at}
-use Rattle.comparison.specs.Rounds.{rounds}
-use Rattle.comparison.specs.Trail.{TrailStep, trail_from, trail}
-use Rattle.comparison_laws.specs.ResultLaws.{rounds_of}
-use Rattle.comparison_laws.specs.TrailLaws.{trail_length}
-use Rattle.kept_classes.specs.RoundLayout.{held_count_lem}
+use Rattle.work_layout.specs.Rounds.{rounds}
+use Rattle.work_layout.specs.Trail.{TrailStep, trail_from, trail}
+use Rattle.report_bytes.specs.ResultLaws.{rounds_of}
+use Rattle.report_bytes.specs.TrailLaws.{trail_length}
+use Rattle.telling_moves.specs.RoundLayout.{held_count_lem}
 use Rattle.report_bytes.specs.ReportInSlice.{StepNumbers, step_in, step_numbers}
 use Rattle.telling_moves.specs.TrailLayout.{apart_at, TrailHeld, Followable, rounds_few, trail_held_same, member_same, followable_same}
 use Rattle.trail_replies.specs.Replies.{reply_at}
@@ -82,11 +82,11 @@ module _ (w : List ℕ) (k side number reply : ℕ) (fits : steps_at + 3 * k + 2
       let c : get_or (step_stored w k side number reply) (steps_at + 3 * k + 2) 0 ≡ reply =
       get_or-set_same two (steps_at + 3 * k + 2) reply 0 (omega arith) in
       let b : get_or (step_stored w k side number reply) (steps_at + 3 * k + 1) 0 ≡ number =
-      get_or_set_other two (steps_at + 3 * k + 2) (steps_at + 3 * k + 1) reply 0 (λ e. omega arith)
+      get_or-set_other two (steps_at + 3 * k + 2) (steps_at + 3 * k + 1) reply 0 (λ e. omega arith)
       ∙ get_or-set_same one (steps_at + 3 * k + 1) number 0 (omega arith) in
       let a : get_or (step_stored w k side number reply) (steps_at + 3 * k) 0 ≡ side =
-      get_or_set_other two (steps_at + 3 * k + 2) (steps_at + 3 * k) reply 0 (λ e. omega arith)
-      ∙ get_or_set_other one (steps_at + 3 * k + 1) (steps_at + 3 * k) number 0 (λ e. omega arith)
+      get_or-set_other two (steps_at + 3 * k + 2) (steps_at + 3 * k) reply 0 (λ e. omega arith)
+      ∙ get_or-set_other one (steps_at + 3 * k + 1) (steps_at + 3 * k) number 0 (λ e. omega arith)
       ∙ get_or-set_same w (steps_at + 3 * k) side 0 (omega arith) in
       step_read (step_stored w k side number reply) k a b c
 

@@ -1,3 +1,6 @@
+pub use Rattle.work_layout.specs.ClassLayout
+pub use Rattle.telling_moves.specs.TrailLayout
+pub use Rattle.work_layout.specs.WorkLayout
 pub mod TakenMove
 pub mod TakenTests
 pub mod FollowedTrail

@@ -1,19 +1,19 @@
 -- The move that is taken at a pair and the step that it makes, by places.
 use Rattle.std.specs.Prelude.{◌≡◌, true, cond, List, [], ◌∷◌, map, length, get_or, eqb}
 use Rattle.std.proofs.Math.Path.{refl, subst}
-use Rattle.std.proofs.Common.{sym, ap, ap₂, ◌∙◌, arith, eq_eqb, ne_eqb, lt-ltb, le-ltb}
+use Rattle.std.proofs.Common.{sym, ap, ap₂, ◌∙◌, arith, eq-eqb, ne_eqb, lt-ltb, le-ltb}
 use Prim.Native.Nat.{ℕ, zero, suc, ◌-◌, ◌/◌, ◌%◌, ◌≤◌, ◌<◌}
-use Rattle.list_laws.specs.TestLaws.{true_false, and_intro, or_left, or_fails}
-use Rattle.sheets.specs.Sheet.{Configuration, Sheet}
-use Rattle.moves.specs.Orders.{Move}
+use Rattle.work_layout.specs.TestLaws.{true_false, and_intro, or_left, or_fails}
+use Rattle.work_layout.specs.Sheet.{Configuration, Sheet}
+use Rattle.work_layout.specs.Orders.{Move}
 use Rattle.work_layout.specs.SetLayout.{member_at, first_move, move_total, move_from}
-use Rattle.comparison.specs.Classes.{place_of, share}
-use Rattle.comparison.specs.Rounds.{together, rounds, apart_in}
-use Rattle.comparison.specs.Trail.{Side, left, right, Reply, none, move, TrailStep, unanswered, reply_to, after, first_of, trail_from}
-use Rattle.comparison.specs.Report.{side_byte}
-use Rattle.comparison_laws.specs.RoundLaws.{together_yes}
-use Rattle.comparison_laws.specs.TrailLaws.{apart_le, trail_none, unanswered_none}
-use Rattle.kept_classes.specs.RoundLayout.{held_in, held_place, number_in}
+use Rattle.work_layout.specs.Classes.{place_of, share}
+use Rattle.work_layout.specs.Rounds.{together, rounds, apart_in}
+use Rattle.work_layout.specs.Trail.{Side, left, right, Reply, none, move, TrailStep, unanswered, reply_to, after, first_of, trail_from}
+use Rattle.work_layout.specs.Report.{side_byte}
+use Rattle.report_bytes.specs.RoundLaws.{together_yes}
+use Rattle.report_bytes.specs.TrailLaws.{apart_le, trail_none, unanswered_none}
+use Rattle.telling_moves.specs.RoundLayout.{held_in, held_place, number_in}
 use Rattle.report_bytes.specs.ReportInSlice.{StepNumbers, step_numbers}
 use Rattle.telling_moves.specs.PlaceTests.{First}
 use Rattle.telling_moves.specs.TrailLayout.{apart_at, TrailHeld}
@@ -211,6 +211,6 @@ module _ {sheet : Sheet} {set : List Configuration} {w : List ℕ} {n m last : �
   trail_apart_first (suc f) p q lp lq e =
       rw (
         or_left (eqb (apart_in set rs (member_at w p) (member_at w q)) (length rs))
-            (eq_eqb (apart_in set rs (member_at w p) (member_at w q)) 0 (sym (T.first_apart p q lp lq) ∙ e)),
+            (eq-eqb (apart_in set rs (member_at w p) (member_at w q)) 0 (sym (T.first_apart p q lp lq) ∙ e)),
         trail_from,
       )

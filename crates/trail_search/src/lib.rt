@@ -1,5 +1,7 @@
 // The trail: from a pair that is first separated in a round above 0, the first irredundant move of the round before without an
 // answer, and the reply that is separated last. Steps stand in the work slice, three numbers each.
+#![tactic(auto)]
+
 ghost use Rattle.std.specs.Prelude.{◌≡◌, ◌≤◌, ◌<◌, length};
 ghost use Rattle.telling_moves.specs.TrailLayout.{Followable};
 ghost use Rattle.trail_search.specs.TakenMove.{Takes, other_of, next_left, next_right};

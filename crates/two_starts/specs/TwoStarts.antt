@@ -2,17 +2,17 @@
 use mathlib.Core.List.{List, Memᴰ}
 use Rattle.std.specs.Prelude.{ℕ, ◌≤◌}
 use Rattle.std.proofs.Common.{arith}
-use Rattle.lists.specs.Lists.{Ascends}
-use Rattle.sheets.specs.SheetLimits.{max_threads}
-use Rattle.sheets.specs.Sheet.{Configuration, Sheet}
-use Rattle.sheets.specs.WellFormed.{WellFormed}
-use Rattle.moves.specs.Orders.{configuration_before}
+use Rattle.sheet_types.specs.Lists.{Ascends}
+use Rattle.sheet_types.specs.SheetLimits.{max_threads}
+use Rattle.sheet_types.specs.Sheet.{Configuration, Sheet}
+use Rattle.sheet_types.specs.WellFormed.{WellFormed}
+use Rattle.sheet_types.specs.Orders.{configuration_before}
 use Rattle.sheet_types.specs.declared.Configuration as held
 use Rattle.sheet_types.specs.HeldSheet.{configuration}
-use Rattle.work_layout.specs.SetLayout.{SetHeld}
-use Rattle.comparison.specs.Outcome.{Outcome}
-use Rattle.comparison_laws.specs.RoundLaws.{ClosedList}
-use Rattle.kept_classes.specs.RoundLayout.{held_found}
+use Rattle.report_bytes.specs.SetLayout.{SetHeld}
+use Rattle.report_bytes.specs.Outcome.{Outcome}
+use Rattle.report_bytes.specs.RoundLaws.{ClosedList}
+use Rattle.class_rounds.specs.RoundLayout.{held_found}
 use Rattle.class_rounds.specs.RoundAtHand.{SetReady}
 use Rattle.class_rounds.specs.RoundsDone.{Ready}
 use Rattle.report_bytes.specs.AnswerMade.{AnswerMade}

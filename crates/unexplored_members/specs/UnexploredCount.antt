@@ -6,7 +6,7 @@ use Rattle.std.proofs.Math.Bool.{true, false, cond}
 use Prim.Native.Nat.{ℕ, zero, suc, ◌+◌, ◌≤◌, ◌<◌}
 use Rattle.std.proofs.Math.ListN.{get_or}
 use Rattle.std.proofs.Math.Dec.{eqb}
-use borrow.Author.Tests.{eqb-true, eqb-false, eq_eqb, ne_eqb}
+use borrow.Author.Tests.{eqb-true, eqb-false, eq-eqb, ne_eqb}
 use Rattle.unexplored_members.specs.UnexploredMembers.{IsExplored}
 use Rattle.work_layout.specs.WorkLayout.{spans_at, member_room}
 
@@ -34,7 +34,7 @@ module _ (v w : List ℕ) (id : ℕ) (same : (i : ℕ) → i < member_room → (
           let i : k ≡ id = eqb-true k id q in
           let a : get_or v (spans_at + k) 0 ≡ 0 = ap (λ (n : ℕ). get_or v (spans_at + n) 0) i ∙ z in
           let b : get_or w (spans_at + k) 0 ≡ get_or w (spans_at + id) 0 = ap (λ (n : ℕ). get_or w (spans_at + n) 0) i in
-          let p : ◌≡◌ {A = ℕ} (cond (eqb (get_or v (spans_at + k) 0) 0) 1 0) 1 = ap (λ (t : Bool). cond {A = ℕ} t 1 0) (eq_eqb (get_or v (spans_at + k) 0) 0 a) in
+          let p : ◌≡◌ {A = ℕ} (cond (eqb (get_or v (spans_at + k) 0) 0) 1 0) 1 = ap (λ (t : Bool). cond {A = ℕ} t 1 0) (eq-eqb (get_or v (spans_at + k) 0) 0 a) in
           let r : ◌≡◌ {A = ℕ} (cond (eqb (get_or w (spans_at + k) 0) 0) 1 0) 0 =
           ap (λ (t : Bool). cond {A = ℕ} t 1 0) (ne_eqb (get_or w (spans_at + k) 0) 0 (λ x. omega (arith, e, b, x))) in
           omega (arith, p, r, count_same k (omega arith) (omega arith))

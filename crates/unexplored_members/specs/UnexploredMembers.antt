@@ -1,6 +1,6 @@
 -- Which members are explored, by the spans that stand in the work slice.
 use Rattle.std.specs.Prelude.{◌≡◌, List, ℕ, ◌+◌, ◌*◌, ◌-◌, ◌<◌, get_or}
-use Rattle.list_laws.specs.PlacesPassed.{FirstPlace}
+use Rattle.collected_moves.specs.PlacesPassed.{FirstPlace}
 use Rattle.member_table.specs.MemberTable.{id_in}
 use Rattle.collected_moves.specs.CollectedMoves.{member_part}
 use Rattle.work_layout.specs.WorkLayout.{spans_at}

@@ -1,4 +1,6 @@
 // Which members are explored: the span of one that was is stored, and the lowest place with one that was not is looked for.
+#![tactic(auto)]
+
 ghost use Rattle.std.specs.Prelude.{◌≡◌, ◌+◌, ◌≤◌, ◌<◌, eqb, length, get_or, set};
 ghost use Rattle.member_table.specs.MemberTable.{Kept};
 ghost use Rattle.collected_moves.specs.CollectedMoves.{member_part};

@@ -1,4 +1,6 @@
 // The verdict on two members, by the round that separates them, or by the classes of one round.
+#![tactic(auto)]
+
 ghost use Rattle.after_rounds.specs.AfterRoundsRead.{verdict_returned};
 ghost use Rattle.std.specs.Prelude.{◌≡◌, ◌<◌};
 ghost use Rattle.verdicts.specs.Verdicts.{verdict_on, verdict_in};

@@ -1,3 +1,17 @@
+pub use Rattle.ask_labels.specs.AskLabels
+pub use Rattle.collected_moves.specs.CollectedFrames
+pub use Rattle.collected_moves.specs.CollectedLaws
+pub use Rattle.collected_moves.specs.CollectedMoves
+pub use Rattle.ask_labels.specs.FactSets
+pub use Rattle.ask_labels.specs.LabelShelfLaws
+pub use Rattle.movable_nodes.specs.NodeMoves
+pub use Rattle.movable_nodes.specs.NodeTables
+pub use Rattle.nodes_to_visit.specs.NodesToVisit
+pub use Rattle.nodes_to_visit.specs.NodesToVisitLaws
+pub use Rattle.set_growth.specs.SetGrowth
+pub use Rattle.set_growth.specs.SetGrowthLaws
+pub use Rattle.set_growth.specs.SheetMoves
+pub use Rattle.nodes_to_visit.specs.ThreadsBeside
 pub mod WalkState
 pub mod PushedInWalk
 pub mod NotedInWalk

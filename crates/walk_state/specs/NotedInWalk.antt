@@ -5,17 +5,17 @@ use Rattle.std.proofs.Common.{sym, ap, ◌∙◌, subst, inl, inr, ⊎_elim, ari
 use mathlib.Core.List.Memᴰ
 use mathlib.Core.List.{List, [], ◌∷◌, ◌++◌, map, Memᴰ}
 use Rattle.std.proofs.Math.Nat.{pow-le-pow_right}
-use Rattle.list_laws.specs.Frames.{SameOutside, outside_same, outside_wider, outside_then, outside_again}
-use Rattle.list_laws.specs.Tabulate.{tabulate_at}
-use Rattle.sheets.specs.Sheet.{Node, Configuration}
-use Rattle.moves.specs.Orders.{Move}
-use Rattle.moves.specs.Moves.{moves}
-use Rattle.refinement.specs.Refinement.{target}
-use Rattle.node_moves.specs.NodeMoves.{NodeBeside, placed_moves}
-use Rattle.comparison.specs.Promise.{PassesLimit}
-use Rattle.closure_table.specs.ClosureTable.{closures_agree}
-use Rattle.member_table.specs.MemberTable.{members_in, part_at}
-use Rattle.member_table.specs.TableInPart.{part_outside, kept_outside}
+use Rattle.nodes_to_visit.specs.Frames.{SameOutside, outside_same, outside_wider, outside_then, outside_again}
+use Rattle.collected_moves.specs.Tabulate.{tabulate_at}
+use Rattle.nodes_to_visit.specs.Sheet.{Node, Configuration}
+use Rattle.nodes_to_visit.specs.Orders.{Move}
+use Rattle.nodes_to_visit.specs.Moves.{moves}
+use Rattle.nodes_to_visit.specs.Refinement.{target}
+use Rattle.movable_nodes.specs.NodeMoves.{NodeBeside, placed_moves}
+use Rattle.nodes_to_visit.specs.Promise.{PassesLimit}
+use Rattle.ask_labels.specs.ClosureTable.{closures_agree}
+use Rattle.collected_moves.specs.MemberTable.{members_in, part_at}
+use Rattle.collected_moves.specs.TableInPart.{part_outside, kept_outside}
 use Rattle.ask_labels.specs.declared.Shelf.{Shelf}
 use Rattle.ask_labels.specs.LabelShelf.{Shelved}
 use Rattle.ask_labels.specs.LabelShelfLaws.{sets_few, room_agree, shelved_agree}
@@ -28,13 +28,13 @@ use Rattle.collected_moves.specs.CollectedLaws.{grown_refl, grown_trans}
 use Rattle.collected_moves.specs.CollectedFrames.{members_outside, moves_outside, collecting_outside, grown_outside}
 use Rattle.set_growth.specs.SetGrowth.{Growth, Sound, InSet, InHand, Gathered}
 use Rattle.set_growth.specs.SetGrowthLaws.{target_in_set, gathered_same, no_room_passes}
-use Rattle.threads_beside.specs.ThreadsBeside.{placed}
+use Rattle.nodes_to_visit.specs.ThreadsBeside.{placed}
 use Rattle.nodes_to_visit.specs.NodesToVisit.{pending_one, pending_in}
 use Rattle.nodes_to_visit.specs.NodesToVisitLaws.{pending_same, pending_same_packed, weight, weight_none, weight_next, weight_append}
 use Rattle.walk_state.specs.declared.Basis.{Basis}
 use Rattle.walk_state.specs.declared.Walk.{Walk}
 use Rattle.walk_state.specs.WalkState.{MemberFits, VisitFits, Entry, Walking, InReach, InReachBelow, Covering, OnSheet, Carried, TurnOn, TurnOver}
-use Rattle.work_layout.specs.WorkLayout.{work_end, table_length, moves_at, members_at, marks_at, pending_at, pending_end, heads_at, lists_end, set_room}
+use Rattle.collected_moves.specs.WorkLayout.{work_end, table_length, moves_at, members_at, marks_at, pending_at, pending_end, heads_at, lists_end, set_room}
 
 -- ---- several moves noted
 -- these moves are collected, with their targets, and no other move or member came in

@@ -5,31 +5,31 @@ use Rattle.std.proofs.Common.{sym, ap, ap₂, ◌∙◌, subst, inl, inr, ⊎_el
 use mathlib.Core.List.Memᴰ
 use mathlib.Core.List.{List, [], ◌∷◌, ◌++◌, map, append-nil, append_assoc, Memᴰ}
 use Rattle.std.proofs.lemmas.Bool.{eqb-false}
-use Rattle.lists.specs.Lists.{sort_up}
-use Rattle.list_laws.specs.AscendingLaws.{sort_up_only, sort_up_not_falling}
-use Rattle.list_laws.specs.Frames.{SameOutside, outside_same, outside_wider, outside_again}
-use Rattle.list_laws.specs.Tabulate.{tabulate, tabulate_at, tabulate_next, tabulate_same}
-use Rattle.list_laws.specs.TabulateLaws.{mem_tabulate, tabulate_mem}
-use Rattle.sheets.specs.Sheet.{Node, stop, tell, ask, both, either, Sheet, node_of, opening_of, open_within, opened}
-use Rattle.sheet_laws.specs.Ranks.{OfParts, Part, Ranked}
-use Rattle.moves.specs.Orders.{Move}
-use Rattle.moves.specs.Moves.{moves}
-use Rattle.node_moves.specs.NodeMoves.{NodeBeside, placed_moves}
-use Rattle.node_moves.specs.ThreadLaws.{sort_append_length}
-use Rattle.member_table.specs.MemberTable.{members_in, part_at}
-use Rattle.member_table.specs.TableInPart.{part_outside, kept_outside}
+use Rattle.nodes_to_visit.specs.Lists.{sort_up}
+use Rattle.nodes_to_visit.specs.AscendingLaws.{sort_up_only, sort_up_not_falling}
+use Rattle.nodes_to_visit.specs.Frames.{SameOutside, outside_same, outside_wider, outside_again}
+use Rattle.collected_moves.specs.Tabulate.{tabulate, tabulate_at, tabulate_next, tabulate_same}
+use Rattle.collected_moves.specs.TabulateLaws.{mem_tabulate, tabulate_mem}
+use Rattle.nodes_to_visit.specs.Sheet.{Node, stop, tell, ask, both, either, Sheet, node_of, opening_of, open_within, opened}
+use Rattle.movable_nodes.specs.Ranks.{OfParts, Part, Ranked}
+use Rattle.nodes_to_visit.specs.Orders.{Move}
+use Rattle.nodes_to_visit.specs.Moves.{moves}
+use Rattle.movable_nodes.specs.NodeMoves.{NodeBeside, placed_moves}
+use Rattle.movable_nodes.specs.ThreadLaws.{sort_append_length}
+use Rattle.collected_moves.specs.MemberTable.{members_in, part_at}
+use Rattle.collected_moves.specs.TableInPart.{part_outside, kept_outside}
 use Rattle.ask_labels.specs.LabelShelfLaws.{room_agree, SameShelf, shelved_agree}
 use Rattle.collected_moves.specs.CollectedMoves.{Grown, members_of, moves_of}
 use Rattle.collected_moves.specs.CollectedFrames.{members_outside, moves_outside, collecting_outside, grown_outside}
 use Rattle.set_growth.specs.SetGrowth.{Growth, InHand}
 use Rattle.set_growth.specs.SetGrowthLaws.{gathered_same}
-use Rattle.threads_beside.specs.ThreadsBeside.{placed}
+use Rattle.nodes_to_visit.specs.ThreadsBeside.{placed}
 use Rattle.nodes_to_visit.specs.NodesToVisit.{PendingPacked, pending_one, pending_in, Pushed, PutAmong, Entered, there, put}
 use Rattle.nodes_to_visit.specs.NodesToVisitLaws.{pushed_below, pushed_packed, weight, weight_none, weight_append, weight_next}
 use Rattle.walk_state.specs.declared.Basis.{Basis}
 use Rattle.walk_state.specs.declared.Walk.{Walk}
 use Rattle.walk_state.specs.WalkState.{NodesOf, ThreadsFit, VisitFits, Entry, marks_of, Walking, InReach, InReachBelow, Covering, Carried, TurnOn}
-use Rattle.work_layout.specs.WorkLayout.{moves_at, marks_at, pending_at, pending_end, set_room}
+use Rattle.collected_moves.specs.WorkLayout.{moves_at, marks_at, pending_at, pending_end, set_room}
 
 -- ---- threads that fit
 -- each thread of one of the nodes is one of them

@@ -2,32 +2,32 @@
 -- it is made of is kept until it is visited too.
 use Rattle.std.specs.Prelude.{◌≡◌, ◌⊎◌, ℕ, ◌+◌, ◌*◌, ◌^◌, ◌≤◌, ◌<◌, length, get_or, take, drop}
 use mathlib.Core.List.{List, [], ◌∷◌, ◌++◌, map, Memᴰ}
-use Rattle.lists.specs.Lists.{NotFalling}
-use Rattle.list_laws.specs.Frames.{SameOutside}
-use Rattle.sheets.specs.Sheet.{Node, tell, ask, Configuration, node_of, opened}
-use Rattle.sheet_laws.specs.Ranks.{Ranked}
-use Rattle.moves.specs.Orders.{Move}
-use Rattle.moves.specs.Moves.{moves}
-use Rattle.sheet_types.specs.NodeTable.{nodes_of, opened_of, movables_of}
-use Rattle.sheet_types.specs.HeldSheet.{nodes_in, opened_in}
-use Rattle.node_moves.specs.NodeMoves.{NodeBeside, placed_moves}
-use Rattle.comparison.specs.Promise.{PassesLimit}
-use Rattle.closure_table.specs.ClosureTable.{Closures}
+use Rattle.nodes_to_visit.specs.Lists.{NotFalling}
+use Rattle.nodes_to_visit.specs.Frames.{SameOutside}
+use Rattle.nodes_to_visit.specs.Sheet.{Node, tell, ask, Configuration, node_of, opened}
+use Rattle.movable_nodes.specs.Ranks.{Ranked}
+use Rattle.nodes_to_visit.specs.Orders.{Move}
+use Rattle.nodes_to_visit.specs.Moves.{moves}
+use Rattle.movable_nodes.specs.NodeTable.{nodes_of, opened_of, movables_of}
+use Rattle.movable_nodes.specs.HeldSheet.{nodes_in, opened_in}
+use Rattle.movable_nodes.specs.NodeMoves.{NodeBeside, placed_moves}
+use Rattle.nodes_to_visit.specs.Promise.{PassesLimit}
+use Rattle.ask_labels.specs.ClosureTable.{Closures}
 use Rattle.movable_nodes.specs.Movability.{MovableHeld}
-use Rattle.member_table.specs.MemberTable.{members_in, part_at, Kept}
+use Rattle.collected_moves.specs.MemberTable.{members_in, part_at, Kept}
 use Rattle.ask_labels.specs.LabelShelf.{ShelfRoom, Shelved}
 use Rattle.collected_moves.specs.declared.Caps.{Caps}
 use Rattle.collected_moves.specs.CollectedMoves.{Collecting, Grown, members_of, moves_of}
 use Rattle.set_growth.specs.SetGrowth.{Growth, Sound, InHand, Gathered}
-use Rattle.threads_beside.specs.ThreadsBeside.{placed}
+use Rattle.nodes_to_visit.specs.ThreadsBeside.{placed}
 use Rattle.nodes_to_visit.specs.NodesToVisit.{PendingPacked, pending_one, pending_in}
 use Rattle.nodes_to_visit.specs.NodesToVisitLaws.{weight}
 use Rattle.walk_state.specs.declared.Basis.{Basis}
 use Rattle.walk_state.specs.declared.Walk.{Walk}
 use Rattle.walk_state.specs.declared.Walked.{Walked}
 use Rattle.walk_state.specs.declared.Walked.TheVariants.{On, Over}
-use Rattle.work_layout.specs.WorkLayout.{work_end, moves_at, marks_at}
-use Rattle.sheets.specs.SheetLimits.{max_nodes, max_threads}
+use Rattle.collected_moves.specs.WorkLayout.{work_end, moves_at, marks_at}
+use Rattle.nodes_to_visit.specs.SheetLimits.{max_nodes, max_threads}
 
 -- ---- what is lent of the sheet: its nodes by number, the threads that each opens to, and which can move
 pub record NodesLent (rank : ℕ → ℕ) (table : List ℕ) (b : Basis) : Type 0 where

@@ -1,4 +1,6 @@
 // A walk over the nodes of one thread: its state. Each node with threads beside it is visited once, what it gives is noted.
+#![tactic(auto)]
+
 use ask_labels::Shelf;
 use collected_moves::{Caps, Running};
 

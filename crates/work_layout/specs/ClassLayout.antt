@@ -1,6 +1,6 @@
 -- The classes of a set's members in the work slice, and the births of classes.
 use Rattle.std.specs.Prelude.{List, ℕ, ◌+◌, ◌/◌, ◌%◌, get_or}
-use Rattle.list_laws.specs.Tabulate.{tabulate}
+use Rattle.packing.specs.Tabulate.{tabulate}
 use Rattle.work_layout.specs.WorkLayout.{classes_at, births_at}
 
 -- the class of the member at place i

@@ -2,11 +2,11 @@
 -- each member's moves in their order, with their targets as places in the set.
 use Rattle.std.specs.Prelude.{◌≡◌, ◌⊎◌, ℕ, ◌+◌, ◌*◌, ◌/◌, ◌%◌, ◌≤◌, ◌<◌, length, get_or}
 use mathlib.Core.List.{List, map, Memᴰ}
-use Rattle.list_laws.specs.Tabulate.{tabulate}
+use Rattle.packing.specs.Tabulate.{tabulate}
 use Rattle.number_lists.specs.NumberLists.{numbers_in}
-use Rattle.sheets.specs.Sheet.{Configuration, Sheet}
-use Rattle.moves.specs.Orders.{Move}
-use Rattle.moves.specs.Moves.{moves}
+use Rattle.comparison.specs.Sheet.{Configuration, Sheet}
+use Rattle.packing.specs.Orders.{Move}
+use Rattle.packing.specs.Moves.{moves}
 use Rattle.packing.specs.declared.Numbers.{Numbers}
 use Rattle.packing.specs.Packing.{unpacked, Packed}
 use Rattle.work_layout.specs.WorkLayout.{spans_at, moves_at, members_at, work_end, member_room, move_room}

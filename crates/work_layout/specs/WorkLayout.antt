@@ -1,6 +1,6 @@
 -- Where everything stands in the work slice, phase by phase. src/lib.rt has the same numbers for the code.
 use Rattle.std.specs.Prelude.{ℕ, ◌+◌, ◌*◌, ◌^◌}
-use Rattle.sheets.specs.SheetLimits.{max_facts}
+use Rattle.comparison.specs.SheetLimits.{max_facts}
 use Rattle.comparison.specs.CallLimits.{work_length}
 
 -- numbers in the work slice that are used

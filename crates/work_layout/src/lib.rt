@@ -1,5 +1,7 @@
 // Where everything stands in the work slice, phase by phase (specs/WorkLayout says what each part has), and the functions that
 // read one number of a part; a work slice made, and one cleared.
+#![tactic(auto)]
+
 ghost use Rattle.std.specs.Prelude.{◌≡◌, ◌≤◌, length, replicate};
 ghost use Rattle.work_layout.specs.WorkLayout.{work_end, member_room};
 ghost use Rattle.work_layout.specs.SetLayout.{member_at, numbers_at, first_move, move_total};

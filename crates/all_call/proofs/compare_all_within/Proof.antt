@@ -1,7 +1,7 @@
 -- What the frame refuses is handed up, and leaves the answer slice as it is; over the set that it leaves the grouping is made, and then
 -- the work slice is cleared.
 use borrow.Author.Rules.{rules}
-use Rattle.found_set.specs.FoundSet.{limits_of}
+use Rattle.call_frame.specs.FoundSet.{limits_of}
 use Rattle.all_call.specs.ComparedAllLaws.{all_call_refused, all_call_ready, all_call_room, all_call_given}
 use Rattle.all_call.proofs.compare_all_within.Statement.{statement}
 use Rattle.all_call.proofs.compare_all_within.Tie as tie

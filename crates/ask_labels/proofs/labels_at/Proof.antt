@@ -1,7 +1,7 @@
 -- An entry for what d lacks of c has the labels of an ask of c; where there is none they are found, behind those of the shelf
 -- or of one with no entries.
 use Rattle.ask_labels.specs.LabelShelfLaws.{entry_answers, missing_answers, shelved_kept}
-use Rattle.stores.specs.FactsOutside.{outside}
+use Rattle.label_tests.specs.FactsOutside.{outside}
 use Rattle.ask_labels.specs.LabelShelf.{LabelsGiven}
 use mathlib.Core.Path.{◌∙◌, subst}
 use Prim.Native.Nat.{ℕ}

@@ -1,6 +1,6 @@
 -- The union is no less than d.
 use borrow.Author.Rules.{rules}
-use Rattle.store_laws.specs.OutsideLaws.{or_above}
+use Rattle.closure_table.specs.OutsideLaws.{or_above}
 use Rattle.ask_labels.proofs.missing.Statement.{statement}
 use Rattle.ask_labels.proofs.missing.Tie as tie
 

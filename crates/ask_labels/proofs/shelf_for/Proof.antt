@@ -1,10 +1,10 @@
 -- `shelf_for`: the shelf is kept for the same store only.
-use borrow.Author.Tests.{eq_eqb, ne_eqb}
+use borrow.Author.Tests.{eq-eqb, ne_eqb}
 use Rattle.ask_labels.proofs.shelf_for.Statement.{statement}
 use Rattle.ask_labels.proofs.shelf_for.Tie as tie
 
 returns : tie.Need-returns
-returns c = simp (eq_eqb _ _ c.if1.true)
+returns c = simp (eq-eqb _ _ c.if1.true)
 
 returns-2 : tie.Need-returns-2
 returns-2 c = simp (ne_eqb _ _ c.if1.false)

@@ -1,6 +1,6 @@
 -- A refusal of the reader is handed up and leaves the work slice as it is; of a sheet that was read the set of its seeds is begun.
 use borrow.Author.Rules.{rules}
-use Rattle.sheet_reading.specs.Reading.{read_choice}
+use Rattle.sheet_types.specs.Reading.{read_choice}
 use Rattle.sheet_types.specs.HeldSheet.{sheet_of}
 use Rattle.sheet_types.specs.SectionLaws.{with_refused}
 use Rattle.found_set.specs.FoundSet.{limits_of}

@@ -1,7 +1,7 @@
 -- The set of two starts is begun within document 01's limits.
 use borrow.Author.Rules.{rules}
 use mathlib.Core.Path.{subst}
-use Rattle.comparison.specs.CallLimits.{Limits}
+use Rattle.work_layout.specs.CallLimits.{Limits}
 use Rattle.call_frame.specs.Begun.{ChoiceSet}
 use Rattle.call_frame.proofs.set_of_choice.Statement.{statement}
 use Rattle.call_frame.proofs.set_of_choice.Tie as tie

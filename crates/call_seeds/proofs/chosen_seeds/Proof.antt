@@ -4,7 +4,7 @@ use mathlib.Core.Path.{ap₂}
 use mathlib.Core.List.{[]}
 use lib.ListN.{set}
 use native.Mathlib.Omega.{arith}
-use Rattle.list_laws.specs.ListPlaces.{get_d_any}
+use Rattle.collected_moves.specs.ListPlaces.{get_d_any}
 use Rattle.sheet_types.specs.declared.Configuration.{Configuration}
 use Rattle.sheet_types.specs.HeldSheet.{no_configuration}
 use Rattle.call_seeds.proofs.chosen_seeds.Statement.{statement}

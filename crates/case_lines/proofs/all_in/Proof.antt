@@ -6,55 +6,55 @@ use native.Mathlib.Omega.{arith}
 use lib.ListN.{length, drop, get_or}
 use borrow.Author.Tests.{not-true, not-false}
 use borrow.Author.Rules.{rules}
-use Rattle.lists.specs.Lists.{all}
+use Rattle.list_laws.specs.Lists.{all}
 use Rattle.case_lines.specs.Lines.{in_class}
 use Rattle.case_lines.specs.LineLaws.{all_here, all_past}
 use Rattle.case_lines.proofs.all_in.Statement.{statement}
 use Rattle.case_lines.proofs.all_in.Tie as tie
 
-abbrev invariant-loop : tie.invariant-loop
+abbrev invariant-loop : tie.invariant-loop-i
 invariant-loop class s i₀ i = (i ≤ length s) × (all (in_class class) (drop i s) ≡ all (in_class class) s)
 
-abbrev decreases-loop : tie.decreases-loop
+abbrev decreases-loop : tie.decreases-loop-i
 decreases-loop class s i₀ i = length s - i
 
-loop-holds : tie.Need-loop-init invariant-loop decreases-loop
+loop-holds : tie.Need-loop-i-init invariant-loop decreases-loop
 loop-holds c = search rules
 
-shared-slice-read-in-class : tie.Need-shared-slice-read-in-class invariant-loop decreases-loop
+shared-slice-read-in-class : tie.Need-bounds-s-i invariant-loop decreases-loop
 shared-slice-read-in-class c = search rules
 
-in-class-requires : tie.Need-in-class-requires invariant-loop decreases-loop
+in-class-requires : tie.Need-in_class-requires invariant-loop decreases-loop
 in-class-requires c κs = search rules
 
-returns : tie.Need-returns invariant-loop decreases-loop
+returns : tie.Need-returns-then-not-in_class invariant-loop decreases-loop
 returns c =
-    let a = c.before.before.before.before.before.before.args in
-    let l = c.before.before.before.before.loop in
-    let wrong : in_class a.class (get_or a.s.now l.i 0) ≡ false = sym c.before.in-class.ensures ∙ not-true _ c.if1.true in
+    let a = c.args in
+    let l = c.loop-i in
+    let wrong : in_class a.class (get_or a.s.now l.i 0) ≡ false = sym c.in_class.ensures ∙ c.if-not-in_class.true in
     rw (all_here (in_class a.class) a.s.now l.i (omega arith), wrong) at l.invariant.1
 
-add-i : tie.Need-overflow-add-i invariant-loop decreases-loop
+add-i : tie.Need-overflow_add-i invariant-loop decreases-loop
 add-i c = search rules
 
-loop-less : tie.Need-loop-smaller invariant-loop decreases-loop
+loop-less : tie.Need-loop-i-smaller invariant-loop decreases-loop
 loop-less c = search rules
 
-loop-again : tie.Need-loop-preserved invariant-loop decreases-loop
+loop-again : tie.Need-loop-i-preserved invariant-loop decreases-loop
 loop-again c =
-    let a = c.before.before.before.before.before.before.args in
-    let l = c.before.before.before.before.loop in
-    let right : in_class a.class (get_or a.s.now l.i 0) ≡ true = sym c.before.in-class.ensures ∙ not-false _ c.if1.false in
+    let a = c.args in
+    let l = c.loop-i in
+    let right : in_class a.class (get_or a.s.now l.i 0) ≡ true = sym c.in_class.ensures ∙ c.if-not-in_class.false in
     (search rules, rw (all_here (in_class a.class) a.s.now l.i (omega arith), right) at l.invariant.1)
 
-returns-2 : tie.Need-returns-2 invariant-loop decreases-loop
+returns-2 : tie.Need-returns invariant-loop decreases-loop
 returns-2 c =
-    let a = c.before.before.before.args in
-    let l = c.before.loop in
+    let a = c.args in
+    let l = c.loop-i in
     sym (all_past (in_class a.class) a.s.now l.i (omega arith)) ∙ l.invariant.1
 
-pub all-in-spec : {M : Type 1} → statement M
-all-in-spec =
+pub all_in_spec : {M : Type 1} → statement M
+all_in_spec =
     tie.close
     (tie.spec
     invariant-loop

@@ -12,84 +12,76 @@ use Rattle.case_lines.specs.LineLaws.{all_at, stored_next}
 use Rattle.case_lines.proofs.decode_all.Statement.{statement}
 use Rattle.case_lines.proofs.decode_all.Tie as tie
 
-abbrev invariant-loop : tie.invariant-loop
+abbrev invariant-loop : tie.invariant-loop-i
 invariant-loop s n out₀ i₀ out i = (i ≤ n) × (length out ≡ length out₀) × (out ≡ tabulate (byte_of s) i ++ drop i out₀)
 
-abbrev decreases-loop : tie.decreases-loop
+abbrev decreases-loop : tie.decreases-loop-i
 decreases-loop s n out₀ i₀ out i = n - i
 
 -- ---- the stages of the function, each from a later one
-abbrev start-of-at-loop : tie.At-loop invariant-loop decreases-loop → tie.Start invariant-loop decreases-loop
-start-of-at-loop s = s.before.before.before
-
-abbrev at-loop-of-hex-digit : tie.After-hex-digit invariant-loop decreases-loop → tie.At-loop invariant-loop decreases-loop
-at-loop-of-hex-digit s = s.before.before.before
-
 -- ---- what is left to show
-loop-holds : tie.Need-loop-init invariant-loop decreases-loop
-loop-holds c = (search rules, search rules, rw (tabulate_none (byte_of c.before.before.args.s.now)))
+loop-holds : tie.Need-loop-i-init invariant-loop decreases-loop
+loop-holds c = (search rules, search rules, rw (tabulate_none (byte_of c.args.s.now)))
 
-mul-hex-digit : tie.Need-overflow-mul-hex-digit invariant-loop decreases-loop
+mul-hex-digit : tie.Need-overflow_mul-i invariant-loop decreases-loop
 mul-hex-digit c = search rules
 
-shared-slice-read-hex-digit : tie.Need-shared-slice-read-hex-digit invariant-loop decreases-loop
+shared-slice-read-hex-digit : tie.Need-bounds-s-i invariant-loop decreases-loop
 shared-slice-read-hex-digit c = search rules
 
-hex-digit-requires : tie.Need-hex-digit-requires invariant-loop decreases-loop
+hex-digit-requires : tie.Need-hex_digit-requires invariant-loop decreases-loop
 hex-digit-requires c κs =
-    let start = c.before.before.before.before.before in
-    all_at (in_class Hex) start.args.s.now start.requires.2 (2 * c.before.before.loop.i) (omega arith)
+    all_at (in_class Hex) c.args.s.now c.requires.2 (2 * c.loop-i.i) (omega arith)
 
-mul-out : tie.Need-overflow-mul-out invariant-loop decreases-loop
+mul-out : tie.Need-overflow_mul-out invariant-loop decreases-loop
 mul-out c = search rules
 
-mul-hex-digit-2 : tie.Need-overflow-mul-hex-digit-2 invariant-loop decreases-loop
+mul-hex-digit-2 : tie.Need-overflow_mul-i-in-loop-i invariant-loop decreases-loop
 mul-hex-digit-2 c = search rules
 
-add-hex-digit : tie.Need-overflow-add-hex-digit invariant-loop decreases-loop
+add-hex-digit : tie.Need-overflow_add-i invariant-loop decreases-loop
 add-hex-digit c = search rules
 
-shared-slice-read-hex-digit-2 : tie.Need-shared-slice-read-hex-digit-2 invariant-loop decreases-loop
+shared-slice-read-hex-digit-2 : tie.Need-bounds-s-i-in-loop-i invariant-loop decreases-loop
 shared-slice-read-hex-digit-2 c = search rules
 
-hex-digit-requires-2 : tie.Need-hex-digit-requires-2 invariant-loop decreases-loop
+hex-digit-requires-2 : tie.Need-hex_digit-requires-in-loop-i invariant-loop decreases-loop
 hex-digit-requires-2 c κs =
-    let start = c.before.before.before.before.before.before.before in
-    all_at (in_class Hex) start.args.s.now start.requires.2 (2 * c.before.before.before.before.loop.i + 1) (omega arith)
+    all_at (in_class Hex) c.args.s.now c.requires.2 (2 * c.loop-i.i + 1) (omega arith)
 
-add-out : tie.Need-overflow-add-out invariant-loop decreases-loop
+add-out : tie.Need-overflow_add-out invariant-loop decreases-loop
 add-out c = search rules
 
-slice-write-out : tie.Need-slice-write-out invariant-loop decreases-loop
+slice-write-out : tie.Need-bounds-out-i invariant-loop decreases-loop
 slice-write-out c = search rules
 
-add-i : tie.Need-overflow-add-i invariant-loop decreases-loop
+add-i : tie.Need-overflow_add-i-in-loop-i invariant-loop decreases-loop
 add-i c = search rules
 
-loop-less : tie.Need-loop-smaller invariant-loop decreases-loop
+loop-less : tie.Need-loop-i-smaller invariant-loop decreases-loop
 loop-less c = search rules
 
-loop-again : tie.Need-loop-preserved invariant-loop decreases-loop
+loop-again : tie.Need-loop-i-preserved invariant-loop decreases-loop
 loop-again c =
-    let a = (start-of-at-loop (at-loop-of-hex-digit c.before.before)).args in
-    let l = c.before.before.before.before.before.loop in (
+    let a = c.args in
+    let l = c.loop-i in (
       search rules,
       simp length-set l.invariant.1,
-      rw (l.invariant.2, c.hex-digit2.ensures.0, c.before.before.hex-digit.ensures.0)
+      rw (l.invariant.2, c.hex_digit-in-loop-i.ensures.0, c.hex_digit.ensures.0)
           (stored_next (byte_of a.s.now) a.out.now l.i (omega arith)),
     )
 
-same_length : tie.Need-same-length invariant-loop decreases-loop
+same_length : tie.Need-shape_of-out invariant-loop decreases-loop
 same_length c = search rules
 
 returns : tie.Need-returns invariant-loop decreases-loop
 returns c =
-    let a = c.before.before.before.before.args in
-    let e : c.before.loop.i ≡ a.n = omega arith in
-    rw e at c.before.loop.invariant.2
+    let a = c.args in
+    let e : c.loop-i.i ≡ a.n = omega arith in
+    rw e at c.loop-i.invariant.2
 
-pub decode-all-spec : {M : Type 1} → statement M
-decode-all-spec =
+pub decode_all_spec : {M : Type 1} → statement M
+decode_all_spec =
     tie.close
     (tie.spec
     invariant-loop

@@ -9,43 +9,43 @@ use Rattle.case_lines.specs.LineLaws.{end_there, end_further, end_past}
 use Rattle.case_lines.proofs.end_from.Statement.{statement}
 use Rattle.case_lines.proofs.end_from.Tie as tie
 
-abbrev invariant-loop : tie.invariant-loop
+abbrev invariant-loop : tie.invariant-loop-i
 invariant-loop s at stop i₀ i = end_from stop s i ≡ end_from stop s at
 
-abbrev decreases-loop : tie.decreases-loop
+abbrev decreases-loop : tie.decreases-loop-i
 decreases-loop s at stop i₀ i = length s - i
 
-loop-holds : tie.Need-loop-init invariant-loop decreases-loop
+loop-holds : tie.Need-loop-i-init invariant-loop decreases-loop
 loop-holds c = search rules
 
-shared-slice-read-if1 : tie.Need-shared-slice-read-if1 invariant-loop decreases-loop
+shared-slice-read-if1 : tie.Need-bounds-s-i invariant-loop decreases-loop
 shared-slice-read-if1 c = search rules
 
-returns : tie.Need-returns invariant-loop decreases-loop
+returns : tie.Need-returns-then-s-i invariant-loop decreases-loop
 returns c =
-    let a = c.before.before.before.before.args in
-    let i = c.before.before.before.loop.i in
-    sym (end_there a.stop a.s.now i (omega arith) c.if1.true) ∙ c.before.before.before.loop.invariant
+    let a = c.args in
+    let i = c.loop-i.i in
+    sym (end_there a.stop a.s.now i (omega arith) c.if-s-i.true) ∙ c.loop-i.invariant
 
-add-i : tie.Need-overflow-add-i invariant-loop decreases-loop
+add-i : tie.Need-overflow_add-i invariant-loop decreases-loop
 add-i c = search rules
 
-loop-less : tie.Need-loop-smaller invariant-loop decreases-loop
+loop-less : tie.Need-loop-i-smaller invariant-loop decreases-loop
 loop-less c = search rules
 
-loop-again : tie.Need-loop-preserved invariant-loop decreases-loop
+loop-again : tie.Need-loop-i-preserved invariant-loop decreases-loop
 loop-again c =
-    let a = c.before.before.before.before.args in
-    let i = c.before.before.before.loop.i in
-    sym (end_further a.stop a.s.now i (omega arith) c.if1.false) ∙ c.before.before.before.loop.invariant
+    let a = c.args in
+    let i = c.loop-i.i in
+    sym (end_further a.stop a.s.now i (omega arith) c.if-s-i.false) ∙ c.loop-i.invariant
 
-returns-2 : tie.Need-returns-2 invariant-loop decreases-loop
+returns-2 : tie.Need-returns invariant-loop decreases-loop
 returns-2 c =
-    let a = c.before.before.args in
-    sym (end_past a.stop a.s.now c.before.loop.i (omega arith)) ∙ c.before.loop.invariant
+    let a = c.args in
+    sym (end_past a.stop a.s.now c.loop-i.i (omega arith)) ∙ c.loop-i.invariant
 
-pub end-from-spec : {M : Type 1} → statement M
-end-from-spec =
+pub end_from_spec : {M : Type 1} → statement M
+end_from_spec =
     tie.close
     (tie.spec
     invariant-loop

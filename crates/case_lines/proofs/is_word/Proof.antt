@@ -4,58 +4,55 @@ use Prim.Native.Nat.{◌-◌, ◌≤◌}
 use native.Mathlib.Omega.{arith}
 use lib.ListN.{length, drop}
 use borrow.Author.Rules.{rules}
-use Rattle.lists.specs.Lists.{same_numbers}
+use Rattle.list_laws.specs.Lists.{same_numbers}
 use Rattle.case_lines.specs.LineLaws.{same_here, same_not, same_past, same_lengths}
 use Rattle.case_lines.proofs.is_word.Statement.{statement}
 use Rattle.case_lines.proofs.is_word.Tie as tie
 
-abbrev invariant-loop : tie.invariant-loop
+abbrev invariant-loop : tie.invariant-loop-i
 invariant-loop s word i₀ i = (i ≤ length word) × (length s ≡ length word) × (same_numbers s word ≡ same_numbers (drop i s) (drop i word))
 
-abbrev decreases-loop : tie.decreases-loop
+abbrev decreases-loop : tie.decreases-loop-i
 decreases-loop s word i₀ i = length word - i
 
-returns : tie.Need-returns invariant-loop decreases-loop
-returns c = sym (same_lengths c.before.args.s.now c.before.args.word.now c.if1.true)
+returns : tie.Need-returns-then-s-word invariant-loop decreases-loop
+returns c = sym (same_lengths c.args.s.now c.args.word.now c.if-s-word.true)
 
-loop-holds : tie.Need-loop-init invariant-loop decreases-loop
+loop-holds : tie.Need-loop-i-init invariant-loop decreases-loop
 loop-holds c = search rules
 
-shared-slice-read-if2 : tie.Need-shared-slice-read-if2 invariant-loop decreases-loop
+shared-slice-read-if2 : tie.Need-bounds-s-i invariant-loop decreases-loop
 shared-slice-read-if2 c = search rules
 
-shared-slice-read-if2-2 : tie.Need-shared-slice-read-if2-2 invariant-loop decreases-loop
+shared-slice-read-if2-2 : tie.Need-bounds-word-i invariant-loop decreases-loop
 shared-slice-read-if2-2 c = search rules
 
-returns-2 : tie.Need-returns-2 invariant-loop decreases-loop
+returns-2 : tie.Need-returns-then-s-i invariant-loop decreases-loop
 returns-2 c =
-    let at = c.before.before.before.before in
-    let a = at.before.before.args in
-    sym (at.loop.invariant.2 ∙ same_not a.s.now a.word.now at.loop.i (omega arith) (omega arith) c.if2.true)
+    let a = c.args in
+    sym (c.loop-i.invariant.2 ∙ same_not a.s.now a.word.now c.loop-i.i (omega arith) (omega arith) c.if-s-i.true)
 
-add-i : tie.Need-overflow-add-i invariant-loop decreases-loop
+add-i : tie.Need-overflow_add-i invariant-loop decreases-loop
 add-i c = search rules
 
-loop-less : tie.Need-loop-smaller invariant-loop decreases-loop
+loop-less : tie.Need-loop-i-smaller invariant-loop decreases-loop
 loop-less c = search rules
 
-loop-again : tie.Need-loop-preserved invariant-loop decreases-loop
+loop-again : tie.Need-loop-i-preserved invariant-loop decreases-loop
 loop-again c =
-    let at = c.before.before.before.before in
-    let a = at.before.before.args in (
+    let a = c.args in (
       search rules,
       search rules,
-      at.loop.invariant.2 ∙ same_here a.s.now a.word.now at.loop.i (omega arith) (omega arith) c.if2.false,
+      c.loop-i.invariant.2 ∙ same_here a.s.now a.word.now c.loop-i.i (omega arith) (omega arith) c.if-s-i.false,
     )
 
-returns-3 : tie.Need-returns-3 invariant-loop decreases-loop
+returns-3 : tie.Need-returns invariant-loop decreases-loop
 returns-3 c =
-    let at = c.before in
-    let a = at.before.before.args in
-    sym (at.loop.invariant.2 ∙ same_past a.s.now a.word.now at.loop.i (omega arith) (omega arith))
+    let a = c.args in
+    sym (c.loop-i.invariant.2 ∙ same_past a.s.now a.word.now c.loop-i.i (omega arith) (omega arith))
 
-pub is-word-spec : {M : Type 1} → statement M
-is-word-spec =
+pub is_word_spec : {M : Type 1} → statement M
+is_word_spec =
     tie.close
     (tie.spec
     invariant-loop

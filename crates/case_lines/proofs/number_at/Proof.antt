@@ -10,31 +10,31 @@ use Rattle.case_lines.specs.LineLaws.{end_within}
 use Rattle.case_lines.proofs.number_at.Statement.{statement}
 use Rattle.case_lines.proofs.number_at.Tie as tie
 
-end-from-requires : tie.Need-end-from-requires
+end-from-requires : tie.Need-end_from-e-requires
 end-from-requires c κs = search rules
 
-sub_number : tie.Need-overflow-sub-number
+sub_number : tie.Need-slice_bounds-number-count
 sub_number c = search rules
 
-part-number-start : tie.Need-slice-bounds-number-start
+part-number-start : tie.Need-slice_bounds-number-start
 part-number-start c = search rules
 
-part-number-end : tie.Need-slice-bounds-number-end
+part-number-end : tie.Need-slice_bounds-number-end
 part-number-end c =
-    let a = c.before.before.args in
-    omega (arith, c.end-from.ensures, end_within space a.line.now a.at c.before.before.requires)
+    let a = c.args in
+    omega (arith, c.end_from-e.ensures, end_within space a.line.now a.at c.requires)
 
 number-requires : tie.Need-number-requires
 number-requires c κs = search rules
 
 returns : tie.Need-returns
 returns c =
-    let a = c.before.before.before.before.args in
-    let e : c.before.before.end-from.result - a.at ≡ before space (drop a.at a.line.now) = omega (arith, c.before.before.end-from.ensures) in
+    let a = c.args in
+    let e : c.end_from-e.result - a.at ≡ before space (drop a.at a.line.now) = omega (arith, c.end_from-e.ensures) in
     c.number.ensures ∙ rw e
 
-pub number-at-spec : {M : Type 1} → statement M
-number-at-spec =
+pub number_at_spec : {M : Type 1} → statement M
+number_at_spec =
     tie.close
     (tie.spec
     end-from-requires

@@ -12,48 +12,47 @@ use Rattle.case_lines.specs.LineLaws.{Within, digits_more, digits_fit, value_non
 use Rattle.case_lines.proofs.value.Statement.{statement}
 use Rattle.case_lines.proofs.value.Tie as tie
 
-abbrev invariant-loop : tie.invariant-loop
+abbrev invariant-loop : tie.invariant-loop-i
 invariant-loop s n₀ i₀ n i = (i ≤ length s) × (n ≡ value (take i s)) × (n < 10 ^ i)
 
-abbrev decreases-loop : tie.decreases-loop
+abbrev decreases-loop : tie.decreases-loop-i
 decreases-loop s n₀ i₀ n i = length s - i
 
-loop-holds : tie.Need-loop-init invariant-loop decreases-loop
+loop-holds : tie.Need-loop-i-init invariant-loop decreases-loop
 loop-holds c = (search rules, sym (value_none c.args.s.now), search rules)
 
-mul-n : tie.Need-overflow-mul-n invariant-loop decreases-loop
-mul-n c = omega (arith, digits_fit c.before.loop.n c.before.loop.i c.before.loop.invariant.2 (omega arith))
+mul-n : tie.Need-overflow_mul-n invariant-loop decreases-loop
+mul-n c = omega (arith, digits_fit c.loop-i.n c.loop-i.i c.loop-i.invariant.2 (omega arith))
 
 -- the byte that is read is a digit
-digit : (c : tie.After-shared-slice-known invariant-loop decreases-loop)
-    → Within 48 57 (get_or c.before.before.before.args.s.now c.before.before.loop.i 0)
+digit : (c : tie.After-shared_slice_known-1 invariant-loop decreases-loop)
+    → Within 48 57 (get_or c.args.s.now c.loop-i.i 0)
 digit c =
-    let start = c.before.before.before in
-    let i = c.before.before.loop.i in
-    between_within 48 57 (get_or start.args.s.now i 0) (all_at (in_class Digit) start.args.s.now start.requires.1 i (omega arith))
+    let i = c.loop-i.i in
+    between_within 48 57 (get_or c.args.s.now i 0) (all_at (in_class Digit) c.args.s.now c.requires.1 i (omega arith))
 
-shared-slice-read-n : tie.Need-shared-slice-read-n invariant-loop decreases-loop
+shared-slice-read-n : tie.Need-bounds-s-i invariant-loop decreases-loop
 shared-slice-read-n c = search rules
 
-sub-n : tie.Need-overflow-sub-n invariant-loop decreases-loop
+sub-n : tie.Need-overflow_sub-n invariant-loop decreases-loop
 sub-n c = omega (arith, (digit c).above)
 
-cast-n : tie.Need-overflow-cast-n invariant-loop decreases-loop
+cast-n : tie.Need-overflow_cast-n invariant-loop decreases-loop
 cast-n c = omega (arith, (digit c).below)
 
-add-n : tie.Need-overflow-add-n invariant-loop decreases-loop
-add-n c = omega (arith, (digit c).below, digits_fit c.before.before.loop.n c.before.before.loop.i c.before.before.loop.invariant.2 (omega arith))
+add-n : tie.Need-overflow_add-n invariant-loop decreases-loop
+add-n c = omega (arith, (digit c).below, digits_fit c.loop-i.n c.loop-i.i c.loop-i.invariant.2 (omega arith))
 
-add-i : tie.Need-overflow-add-i invariant-loop decreases-loop
+add-i : tie.Need-overflow_add-i invariant-loop decreases-loop
 add-i c = search rules
 
-loop-less : tie.Need-loop-smaller invariant-loop decreases-loop
+loop-less : tie.Need-loop-i-smaller invariant-loop decreases-loop
 loop-less c = search rules
 
-loop-again : tie.Need-loop-preserved invariant-loop decreases-loop
+loop-again : tie.Need-loop-i-preserved invariant-loop decreases-loop
 loop-again c =
-    let a = c.before.before.before.args in
-    let l = c.before.before.loop in (
+    let a = c.args in
+    let l = c.loop-i in (
       search rules,
       rw (value_next a.s.now l.i (omega arith), sym l.invariant.1),
       digits_more l.n l.i (get_or a.s.now l.i 0) l.invariant.2 (digit c).below,
@@ -61,8 +60,8 @@ loop-again c =
 
 returns : tie.Need-returns invariant-loop decreases-loop
 returns c =
-    let a = c.before.before.args in
-    c.before.loop.invariant.1 ∙ ap value (take_all c.before.loop.i a.s.now (omega arith))
+    let a = c.args in
+    c.loop-i.invariant.1 ∙ ap value (take_all c.loop-i.i a.s.now (omega arith))
 
 pub value_spec : {M : Type 1} → statement M
 value_spec =

@@ -10,31 +10,31 @@ use Rattle.case_lines.specs.LineLaws.{end_within}
 use Rattle.case_lines.proofs.wrong_name_at.Statement.{statement}
 use Rattle.case_lines.proofs.wrong_name_at.Tie as tie
 
-end-from-requires : tie.Need-end-from-requires
+end-from-requires : tie.Need-end_from-e-requires
 end-from-requires c κs = search rules
 
-sub-wrong-name : tie.Need-overflow-sub-wrong-name
+sub-wrong-name : tie.Need-slice_bounds-wrong_name-count
 sub-wrong-name c = search rules
 
-part-wrong-name-start : tie.Need-slice-bounds-wrong-name-start
+part-wrong-name-start : tie.Need-slice_bounds-wrong_name-start
 part-wrong-name-start c = search rules
 
-part-wrong-name-end : tie.Need-slice-bounds-wrong-name-end
+part-wrong-name-end : tie.Need-slice_bounds-wrong_name-end
 part-wrong-name-end c =
-    let a = c.before.before.args in
-    omega (arith, c.end-from.ensures, end_within space a.line.now a.at c.before.before.requires)
+    let a = c.args in
+    omega (arith, c.end_from-e.ensures, end_within space a.line.now a.at c.requires)
 
-wrong-name-requires : tie.Need-wrong-name-requires
+wrong-name-requires : tie.Need-wrong_name-requires
 wrong-name-requires c κs = search rules
 
 returns : tie.Need-returns
 returns c =
-    let a = c.before.before.before.before.args in
-    let e : c.before.before.end-from.result - a.at ≡ before space (drop a.at a.line.now) = omega (arith, c.before.before.end-from.ensures) in
-    c.Wrong-name.ensures ∙ rw e
+    let a = c.args in
+    let e : c.end_from-e.result - a.at ≡ before space (drop a.at a.line.now) = omega (arith, c.end_from-e.ensures) in
+    c.wrong_name.ensures ∙ rw e
 
-pub wrong-name-at-spec : {M : Type 1} → statement M
-wrong-name-at-spec =
+pub wrong_name_at_spec : {M : Type 1} → statement M
+wrong_name_at_spec =
     tie.close
     (tie.spec
     end-from-requires

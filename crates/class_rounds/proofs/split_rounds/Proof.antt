@@ -3,8 +3,8 @@
 use mathlib.Core.Bool.{true, false}
 use mathlib.Core.List.{List}
 use lib.ListN.{length, replicate}
-use Rattle.list_laws.specs.TestLaws.{true_false}
-use Rattle.class_splits.specs.ClassedPlaces.{classed_count}
+use Rattle.round_lines.specs.TestLaws.{true_false}
+use Rattle.round_steps.specs.ClassedPlaces.{classed_count}
 use Rattle.class_rounds.specs.RoundsDone.{Ready, Refining, refining_first, refining_shape, refining_classed, refining_lines, refining_next, refining_last, refining_stopped, LastRound, LaterRound}
 use borrow.Author.Rules.{rules}
 use native.Mathlib.Omega.{arith}

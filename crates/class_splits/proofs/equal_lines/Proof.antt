@@ -1,6 +1,6 @@
 -- `equal_lines` compares the numbers of lines first: members with the same lines have as many.
 use Rattle.work_layout.specs.WorkLayout.{line_totals_at}
-use Rattle.list_laws.specs.TestLaws.{true_false}
+use Rattle.work_layout.specs.TestLaws.{true_false}
 use mathlib.Core.Bool.{false}
 use lib.ListN.{get_or}
 use Rattle.class_splits.specs.LineTests.{lines_counted, lines_tell}

@@ -1,5 +1,5 @@
 -- `is_part` asks where the class came from, and then for the lines of its chosen member.
-use Rattle.list_laws.specs.TestLaws.{true_false}
+use Rattle.work_layout.specs.TestLaws.{true_false}
 use mathlib.Core.Bool.{false}
 use Rattle.class_splits.specs.LineTests.{part_tell}
 use mathlib.Core.Path.{refl}

@@ -1,5 +1,5 @@
 -- `part_of` looks at one part after the other: those passed do not fit.
-use Rattle.list_laws.specs.PlacesPassed.{HoldsFrom, holds_next}
+use Rattle.work_layout.specs.PlacesPassed.{HoldsFrom, holds_next}
 use Rattle.class_splits.specs.LineTests.{PartFits}
 use borrow.Author.Rules.{rules}
 use native.Mathlib.Omega.{arith}

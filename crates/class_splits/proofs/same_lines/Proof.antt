@@ -2,7 +2,7 @@
 use borrow.Author.Rules.{rules}
 use mathlib.Core.Bool.{true}
 use mathlib.Core.Path.{refl, sym, ap}
-use Rattle.list_laws.specs.TestLaws.{true_false}
+use Rattle.work_layout.specs.TestLaws.{true_false}
 use Rattle.class_splits.specs.LineTests.{lines_held}
 use Rattle.class_splits.proofs.same_lines.Statement.{statement}
 use Rattle.class_splits.proofs.same_lines.Tie as tie

@@ -1,5 +1,5 @@
 -- `same_numbers` goes on as long as the numbers at the places passed agree.
-use Rattle.list_laws.specs.TestLaws.{true_false}
+use Rattle.work_layout.specs.TestLaws.{true_false}
 use mathlib.Core.Bool.{true, false}
 use Rattle.class_splits.specs.LineTests.{AgreeBelow, agree_same, same_agree, agree_more}
 use mathlib.Core.Path.{subst, ◌≡◌, refl}

@@ -2,7 +2,7 @@
 use native.Mathlib.Omega.{arith}
 use borrow.Author.Rules.{rules}
 use mathlib.Core.Logic.{inl}
-use Rattle.list_laws.specs.Frames.{outside_then}
+use Rattle.set_digits.specs.Frames.{outside_then}
 use Rattle.held_rules.specs.HeldRuleLaws.{held_agree}
 use Rattle.closed_digits.specs.ClosedDigits.{table_end}
 use Rattle.closed_digits.proofs.hold_table.Statement.{statement}

@@ -3,8 +3,8 @@ use borrow.Author.Rules.{rules}
 use native.Mathlib.Omega.{arith}
 use Prim.Native.Nat.{ℕ, ◌-◌, ◌≤◌}
 use mathlib.Core.Path.{◌≡◌, subst}
-use Rattle.list_laws.specs.Frames.{SameOutside, outside_same, outside_wider, outside_again}
-use Rattle.set_closure.specs.RuleTable.{rules_in}
+use Rattle.set_digits.specs.Frames.{SameOutside, outside_same, outside_wider, outside_again}
+use Rattle.held_rules.specs.RuleTable.{rules_in}
 use Rattle.closed_digits.specs.ClosedDigits.{closed_at, table_end, ClosedMarked}
 use Rattle.closed_digits.specs.ClosedDigitLaws.{closed_first_lem, closed_next}
 use Rattle.closed_digits.proofs.mark_closed.Statement.{statement}

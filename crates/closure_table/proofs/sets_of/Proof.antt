@@ -6,9 +6,9 @@ use borrow.Author.Rules.{rules}
 use mathlib.Core.Path.{◌≡◌}
 use Rattle.closure_table.proofs.sets_of.Statement.{statement}
 use Rattle.closure_table.proofs.sets_of.Tie as tie
-use Rattle.sheets.specs.SheetLimits.{max_facts}
+use Rattle.set_closure.specs.SheetLimits.{max_facts}
 
-shl-result : tie.Need-overflow-shl-result
+shl-result : tie.Need-overflow_shl-result
 shl-result c = search rules
 
 returns : tie.Need-returns
@@ -18,5 +18,5 @@ returns c =
     let exact : (1 * 2 ^ n) % 2 ^ 64 ≡ 1 * 2 ^ n = shl_exact {a = 1} 1 n 64 (omega arith) (omega arith) in
     (omega (arith, exact), omega (arith, exact, few))
 
-pub sets-of-spec : {M : Type 1} → statement M
-sets-of-spec = tie.close (tie.spec shl-result returns)
+pub sets_of_spec : {M : Type 1} → statement M
+sets_of_spec = tie.close (tie.spec shl-result returns)

@@ -1,8 +1,8 @@
 -- What the frame refuses is handed up, and leaves the answer slice as it is; on the set that it leaves the report is made, and then
 -- the work slice is cleared.
 use borrow.Author.Rules.{rules}
-use Rattle.found_set.specs.FoundSet.{limits_of}
-use Rattle.comparison.specs.Report.{report_on, report_bytes}
+use Rattle.call_frame.specs.FoundSet.{limits_of}
+use Rattle.work_layout.specs.Report.{report_on, report_bytes}
 use Rattle.answers.specs.Returned.{returned}
 use Rattle.pair_calls.specs.PairAnswered.{pair_refused, pair_ready, pair_room, pair_given}
 use Rattle.compare_call.specs.ComparedLaws.{compared_pair}

@@ -9,105 +9,104 @@ use Rattle.conclusion_passes.specs.GatheredLaws.{blocks_none, blocks_next, block
 use Rattle.conclusion_passes.proofs.spread_fours.Statement.{statement}
 use Rattle.conclusion_passes.proofs.spread_fours.Tie as tie
 
-abbrev invariant-loop : tie.invariant-loop
+abbrev invariant-loop : tie.invariant-loop-q
 invariant-loop table₀ blocks q₀ table q = BlocksSpread 1 blocks q table₀ table
 
-abbrev decreases-loop : tie.decreases-loop
+abbrev decreases-loop : tie.decreases-loop-q
 decreases-loop table₀ blocks q₀ table q = blocks - q
 
-loop-holds : tie.Need-loop-init invariant-loop decreases-loop
+loop-holds : tie.Need-loop-q-init invariant-loop decreases-loop
 loop-holds c = blocks_none
 
-mul-work : tie.Need-overflow-mul-work invariant-loop decreases-loop
+mul-work : tie.Need-overflow_mul-work invariant-loop decreases-loop
 mul-work c = search rules
 
-add-work : tie.Need-overflow-add-work invariant-loop decreases-loop
+add-work : tie.Need-overflow_add-work invariant-loop decreases-loop
 add-work c = search rules
 
-mul-work-2 : tie.Need-overflow-mul-work-2 invariant-loop decreases-loop
+mul-work-2 : tie.Need-offset_bounds-work-q invariant-loop decreases-loop
 mul-work-2 c = search rules
 
-slice-read-work : tie.Need-slice-read-work invariant-loop decreases-loop
+slice-read-work : tie.Need-bounds-work-q invariant-loop decreases-loop
 slice-read-work c = search rules
 
-mul-work-3 : tie.Need-overflow-mul-work-3 invariant-loop decreases-loop
+mul-work-3 : tie.Need-overflow_mul-work-in-loop-q invariant-loop decreases-loop
 mul-work-3 c = search rules
 
-mul-work-4 : tie.Need-overflow-mul-work-4 invariant-loop decreases-loop
+mul-work-4 : tie.Need-offset_bounds-work-q-in-loop-q invariant-loop decreases-loop
 mul-work-4 c = search rules
 
-slice-read-work-2 : tie.Need-slice-read-work-2 invariant-loop decreases-loop
+slice-read-work-2 : tie.Need-bounds-work-q-in-loop-q invariant-loop decreases-loop
 slice-read-work-2 c = search rules
 
-mul-work-5 : tie.Need-overflow-mul-work-5 invariant-loop decreases-loop
+mul-work-5 : tie.Need-overflow_mul-work-in-loop-q-2 invariant-loop decreases-loop
 mul-work-5 c = search rules
 
-add-work-2 : tie.Need-overflow-add-work-2 invariant-loop decreases-loop
+add-work-2 : tie.Need-overflow_add-work-in-loop-q invariant-loop decreases-loop
 add-work-2 c = search rules
 
-mul-work-6 : tie.Need-overflow-mul-work-6 invariant-loop decreases-loop
+mul-work-6 : tie.Need-offset_bounds-work-q-in-loop-q-2 invariant-loop decreases-loop
 mul-work-6 c = search rules
 
-slice-write-work : tie.Need-slice-write-work invariant-loop decreases-loop
+slice-write-work : tie.Need-bounds-work-q-in-loop-q-2 invariant-loop decreases-loop
 slice-write-work c = search rules
 
-mul-work-7 : tie.Need-overflow-mul-work-7 invariant-loop decreases-loop
+mul-work-7 : tie.Need-overflow_mul-work-in-loop-q-3 invariant-loop decreases-loop
 mul-work-7 c = search rules
 
-add-work-3 : tie.Need-overflow-add-work-3 invariant-loop decreases-loop
+add-work-3 : tie.Need-overflow_add-work-in-loop-q-2 invariant-loop decreases-loop
 add-work-3 c = search rules
 
-mul-work-8 : tie.Need-overflow-mul-work-8 invariant-loop decreases-loop
+mul-work-8 : tie.Need-offset_bounds-work-q-in-loop-q-3 invariant-loop decreases-loop
 mul-work-8 c = search rules
 
-slice-read-work-3 : tie.Need-slice-read-work-3 invariant-loop decreases-loop
+slice-read-work-3 : tie.Need-bounds-work-q-in-loop-q-3 invariant-loop decreases-loop
 slice-read-work-3 c = simp length-set (search rules)
 
-mul-work-9 : tie.Need-overflow-mul-work-9 invariant-loop decreases-loop
+mul-work-9 : tie.Need-overflow_mul-work-in-loop-q-4 invariant-loop decreases-loop
 mul-work-9 c = search rules
 
-add-work-4 : tie.Need-overflow-add-work-4 invariant-loop decreases-loop
+add-work-4 : tie.Need-overflow_add-work-in-loop-q-3 invariant-loop decreases-loop
 add-work-4 c = search rules
 
-mul-work-10 : tie.Need-overflow-mul-work-10 invariant-loop decreases-loop
+mul-work-10 : tie.Need-offset_bounds-work-q-in-loop-q-4 invariant-loop decreases-loop
 mul-work-10 c = search rules
 
-slice-read-work-4 : tie.Need-slice-read-work-4 invariant-loop decreases-loop
+slice-read-work-4 : tie.Need-bounds-work-q-in-loop-q-4 invariant-loop decreases-loop
 slice-read-work-4 c = simp length-set (search rules)
 
-mul-work-11 : tie.Need-overflow-mul-work-11 invariant-loop decreases-loop
+mul-work-11 : tie.Need-overflow_mul-work-in-loop-q-5 invariant-loop decreases-loop
 mul-work-11 c = search rules
 
-add-work-5 : tie.Need-overflow-add-work-5 invariant-loop decreases-loop
+add-work-5 : tie.Need-overflow_add-work-in-loop-q-4 invariant-loop decreases-loop
 add-work-5 c = search rules
 
-mul-work-12 : tie.Need-overflow-mul-work-12 invariant-loop decreases-loop
+mul-work-12 : tie.Need-offset_bounds-work-q-in-loop-q-5 invariant-loop decreases-loop
 mul-work-12 c = search rules
 
-slice-write-work-2 : tie.Need-slice-write-work-2 invariant-loop decreases-loop
+slice-write-work-2 : tie.Need-bounds-work-q-in-loop-q-5 invariant-loop decreases-loop
 slice-write-work-2 c = simp length-set (search rules)
 
-add-q : tie.Need-overflow-add-q invariant-loop decreases-loop
+add-q : tie.Need-overflow_add-q invariant-loop decreases-loop
 add-q c = search rules
 
-loop-less : tie.Need-loop-smaller invariant-loop decreases-loop
+loop-less : tie.Need-loop-q-smaller invariant-loop decreases-loop
 loop-less c = search rules
 
-loop-again : tie.Need-loop-preserved invariant-loop decreases-loop
+loop-again : tie.Need-loop-q-preserved invariant-loop decreases-loop
 loop-again c =
-    let at-loop = c.before.before.before.before.before in
-    let l = at-loop.loop in
-    let t = c.before.before.before.before.loop-test.true in
-    blocks_next l.invariant t (four_united l.q l.work (omega (arith, at-loop.before.requires.1, l.invariant.spread.long, t)) _ refl)
+    let l = c.loop-q in
+    let t = c.loop-q-test.true in
+    blocks_next l.invariant t (four_united l.q l.work (omega (arith, c.requires.1, l.invariant.spread.long, t)) _ refl)
 
-same_length : tie.Need-same-length invariant-loop decreases-loop
+same_length : tie.Need-shape_of-work invariant-loop decreases-loop
 same_length c = search rules
 
 returns : tie.Need-returns invariant-loop decreases-loop
-returns c = blocks_all c.before.loop.invariant (omega arith)
+returns c = blocks_all c.loop-q.invariant (omega arith)
 
-pub spread-fours-spec : {M : Type 1} → statement M
-spread-fours-spec =
+pub spread_fours_spec : {M : Type 1} → statement M
+spread_fours_spec =
     tie.close
     (tie.spec
     invariant-loop

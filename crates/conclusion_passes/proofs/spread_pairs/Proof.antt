@@ -7,69 +7,68 @@ use Rattle.conclusion_passes.specs.GatheredLaws.{blocks_none, blocks_next, block
 use Rattle.conclusion_passes.proofs.spread_pairs.Statement.{statement}
 use Rattle.conclusion_passes.proofs.spread_pairs.Tie as tie
 
-abbrev invariant-loop : tie.invariant-loop
+abbrev invariant-loop : tie.invariant-loop-q
 invariant-loop table₀ blocks q₀ table q = BlocksSpread 0 blocks q table₀ table
 
-abbrev decreases-loop : tie.decreases-loop
+abbrev decreases-loop : tie.decreases-loop-q
 decreases-loop table₀ blocks q₀ table q = blocks - q
 
-loop-holds : tie.Need-loop-init invariant-loop decreases-loop
+loop-holds : tie.Need-loop-q-init invariant-loop decreases-loop
 loop-holds c = blocks_none
 
-mul-work : tie.Need-overflow-mul-work invariant-loop decreases-loop
+mul-work : tie.Need-overflow_mul-work invariant-loop decreases-loop
 mul-work c = search rules
 
-add-work : tie.Need-overflow-add-work invariant-loop decreases-loop
+add-work : tie.Need-overflow_add-work invariant-loop decreases-loop
 add-work c = search rules
 
-mul-work-2 : tie.Need-overflow-mul-work-2 invariant-loop decreases-loop
+mul-work-2 : tie.Need-offset_bounds-work-q invariant-loop decreases-loop
 mul-work-2 c = search rules
 
-slice-read-work : tie.Need-slice-read-work invariant-loop decreases-loop
+slice-read-work : tie.Need-bounds-work-q invariant-loop decreases-loop
 slice-read-work c = search rules
 
-mul-work-3 : tie.Need-overflow-mul-work-3 invariant-loop decreases-loop
+mul-work-3 : tie.Need-overflow_mul-work-in-loop-q invariant-loop decreases-loop
 mul-work-3 c = search rules
 
-mul-work-4 : tie.Need-overflow-mul-work-4 invariant-loop decreases-loop
+mul-work-4 : tie.Need-offset_bounds-work-q-in-loop-q invariant-loop decreases-loop
 mul-work-4 c = search rules
 
-slice-read-work-2 : tie.Need-slice-read-work-2 invariant-loop decreases-loop
+slice-read-work-2 : tie.Need-bounds-work-q-in-loop-q invariant-loop decreases-loop
 slice-read-work-2 c = search rules
 
-mul-work-5 : tie.Need-overflow-mul-work-5 invariant-loop decreases-loop
+mul-work-5 : tie.Need-overflow_mul-work-in-loop-q-2 invariant-loop decreases-loop
 mul-work-5 c = search rules
 
-add-work-2 : tie.Need-overflow-add-work-2 invariant-loop decreases-loop
+add-work-2 : tie.Need-overflow_add-work-in-loop-q invariant-loop decreases-loop
 add-work-2 c = search rules
 
-mul-work-6 : tie.Need-overflow-mul-work-6 invariant-loop decreases-loop
+mul-work-6 : tie.Need-offset_bounds-work-q-in-loop-q-2 invariant-loop decreases-loop
 mul-work-6 c = search rules
 
-slice-write-work : tie.Need-slice-write-work invariant-loop decreases-loop
+slice-write-work : tie.Need-bounds-work-q-in-loop-q-2 invariant-loop decreases-loop
 slice-write-work c = search rules
 
-add-q : tie.Need-overflow-add-q invariant-loop decreases-loop
+add-q : tie.Need-overflow_add-q invariant-loop decreases-loop
 add-q c = search rules
 
-loop-less : tie.Need-loop-smaller invariant-loop decreases-loop
+loop-less : tie.Need-loop-q-smaller invariant-loop decreases-loop
 loop-less c = search rules
 
-loop-again : tie.Need-loop-preserved invariant-loop decreases-loop
+loop-again : tie.Need-loop-q-preserved invariant-loop decreases-loop
 loop-again c =
-    let at-loop = c.before.before.before in
-    let l = at-loop.loop in
-    let t = c.before.before.loop-test.true in
-    blocks_next l.invariant t (pair_united l.q l.work (omega (arith, at-loop.before.requires.1, l.invariant.spread.long, t)))
+    let l = c.loop-q in
+    let t = c.loop-q-test.true in
+    blocks_next l.invariant t (pair_united l.q l.work (omega (arith, c.requires.1, l.invariant.spread.long, t)))
 
-same_length : tie.Need-same-length invariant-loop decreases-loop
+same_length : tie.Need-shape_of-work invariant-loop decreases-loop
 same_length c = search rules
 
 returns : tie.Need-returns invariant-loop decreases-loop
-returns c = blocks_all c.before.loop.invariant (omega arith)
+returns c = blocks_all c.loop-q.invariant (omega arith)
 
-pub spread-pairs-spec : {M : Type 1} → statement M
-spread-pairs-spec =
+pub spread_pairs_spec : {M : Type 1} → statement M
+spread_pairs_spec =
     tie.close
     (tie.spec
     invariant-loop

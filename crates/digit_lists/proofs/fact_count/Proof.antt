@@ -6,10 +6,10 @@ use lib.ListN.{get_or}
 use mir.Syntax.{w64}
 use mir.Val.{Fits}
 use borrow.Author.Rules.{rules}
-use Rattle.list_laws.specs.Tabulate.{tabulate, tabulate_at}
-use Rattle.stores.specs.FactSets.{digit}
-use Rattle.ordered_search.specs.OrderedSearch.{fact_count}
-use Rattle.search_laws.specs.SizeLaws.{count_most}
+use Rattle.set_digits.specs.Tabulate.{tabulate, tabulate_at}
+use Rattle.set_digits.specs.FactSets.{digit}
+use Rattle.set_digits.specs.OrderedSearch.{fact_count}
+use Rattle.set_digits.specs.SizeLaws.{count_most}
 use Rattle.digit_lists.specs.SizeSplit.{count_split}
 use Rattle.digit_lists.proofs.fact_count.Statement.{statement}
 use Rattle.digit_lists.proofs.fact_count.Tie as tie

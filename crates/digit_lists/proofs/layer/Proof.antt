@@ -8,12 +8,12 @@ use lib.Dec.{eqb}
 use lib.ListN.{get_or}
 use borrow.Author.Rules.{rules}
 use borrow.Author.Tests.{eqb-true}
-use Rattle.lists.specs.Lists.{all}
-use Rattle.list_laws.specs.Members.{all_yes}
-use Rattle.stores.specs.FactSets.{digit}
-use Rattle.moves.specs.Moves.{count_up}
-use Rattle.move_laws.specs.LabelLaws.{count_up_mem}
-use Rattle.ordered_search.specs.OrderedSearch.{fact_count}
+use Rattle.place_sets.specs.Lists.{all}
+use Rattle.place_sets.specs.Members.{all_yes}
+use Rattle.set_digits.specs.FactSets.{digit}
+use Rattle.set_digits.specs.Moves.{count_up}
+use Rattle.set_digits.specs.LabelLaws.{count_up_mem}
+use Rattle.set_digits.specs.OrderedSearch.{fact_count}
 use Rattle.set_digits.specs.SetDigits.{bit}
 use Rattle.digit_lists.proofs.layer.Statement.{statement}
 use Rattle.digit_lists.proofs.layer.Tie as tie

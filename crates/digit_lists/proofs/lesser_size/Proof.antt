@@ -1,7 +1,7 @@
 -- `lesser_size` adds the facts of the word's number and of its first layer.
 use native.Mathlib.Omega.{arith}
 use borrow.Author.Rules.{rules}
-use Rattle.search_laws.specs.SizeLaws.{count_most}
+use Rattle.set_digits.specs.SizeLaws.{count_most}
 use Rattle.digit_lists.proofs.lesser_size.Statement.{statement}
 use Rattle.digit_lists.proofs.lesser_size.Tie as tie
 

@@ -6,7 +6,7 @@ use mathlib.Core.Path.{◌≡◌, sym, ap, ◌∙◌, subst}
 use mathlib.Core.List.{List}
 use lib.ListN.{length}
 use lib.Pow.{pow_mono, shl_exact}
-use Rattle.sheets.specs.SheetLimits.{max_facts}
+use Rattle.set_digits.specs.SheetLimits.{max_facts}
 use Rattle.set_digits.specs.SetDigits.{words_of}
 use Rattle.digit_spread.specs.DigitSpread.{SpreadDown, WordsJoined}
 use Rattle.digit_spread.specs.JoinLaws.{blocks_of_lem, spread_next, spread_all, sets_fit}

@@ -1,6 +1,6 @@
 -- `comes_below` tests the labels first: where they are equal, or the one is not inside the other, the stores do not matter.
 use Rattle.work_layout.specs.SetLayout.{member_at}
-use Rattle.stores.specs.Stores.{includes}
+use Rattle.work_layout.specs.Stores.{includes}
 use Rattle.dominance_tests.specs.LowerMoves.{equal_not_below, outside_not_below, below_by_stores}
 use mathlib.Core.List.{List}
 use Prim.Native.Nat.{ℕ, ◌-◌, ◌/◌, ◌%◌}

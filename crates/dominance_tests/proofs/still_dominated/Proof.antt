@@ -1,12 +1,12 @@
 -- `still_dominated` compares two classes where a member is kept.
-use borrow.Author.Tests.{eq_eqb, ne_eqb}
+use borrow.Author.Tests.{eq-eqb, ne_eqb}
 use Prim.Native.Nat.{◌-◌}
 use borrow.Author.Rules.{rules}
 use Rattle.dominance_tests.proofs.still_dominated.Statement.{statement}
 use Rattle.dominance_tests.proofs.still_dominated.Tie as tie
 
 returns : tie.Need-returns
-returns c = simp (eq_eqb _ _ c.if1.true)
+returns c = simp (eq-eqb _ _ c.if1.true)
 
 cast-class-at : tie.Need-overflow-cast-class-at
 cast-class-at c = search rules

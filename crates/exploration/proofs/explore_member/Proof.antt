@@ -3,8 +3,8 @@
 use mathlib.Core.Path.{refl, ap, ◌∙◌}
 use native.Mathlib.Omega.{arith}
 use borrow.Author.Rules.{rules}
-use Rattle.sheets.specs.Sheet.{Configuration}
-use Rattle.sheet_laws.specs.Ranks.{rank_of}
+use Rattle.sheet_types.specs.Sheet.{Configuration}
+use Rattle.member_table.specs.Ranks.{rank_of}
 use Rattle.sheet_types.specs.NodeTable.{nodes_of}
 use Rattle.sheet_types.specs.HeldSheet.{configuration, nodes_in}
 use Rattle.exploration.specs.MemberExplored.{lent_carried, id_fits, walk_begins, found_standing, moves_over, additions_over, member_explored, found_on, found_over, added_on, added_over}

@@ -3,8 +3,8 @@ use native.Mathlib.Omega.{arith}
 use borrow.Author.Rules.{rules}
 use Rattle.sheet_types.specs.NodeTable.{nodes_of}
 use Rattle.sheet_types.specs.HeldSheet.{starts_in, sheet_of, nodes_in}
-use Rattle.comparison_laws.specs.SheetMoves.{conclusions_fit}
-use Rattle.ask_labels.specs.LabelShelfLaws.{sets_few}
+use Rattle.seed_members.specs.SheetMoves.{conclusions_fit}
+use Rattle.exploration.specs.LabelShelfLaws.{sets_few}
 use Rattle.found_set.specs.FoundSet.{plan_of}
 use Rattle.seed_members.specs.SeedLaws.{seeds_on, seeds_over}
 use Rattle.found_set.specs.LentSheetLaws.{facts_few, rules_few, begins}

@@ -1,6 +1,6 @@
 -- Each turn keeps the set between the given one and its closure; a set that grows by nothing is closed, and one that grows has a
 -- greater number after it.
-use Rattle.store_laws.specs.StoreLaws.{Between, between_first}
+use Rattle.set_closure.specs.StoreLaws.{Between, between_first}
 use Rattle.held_rules.specs.HeldRules.{held_rules}
 use Rattle.held_rules.specs.HeldRuleLaws.{between_grown, between_ends, grown_above, count_fits}
 use borrow.Author.Rules.{rules}

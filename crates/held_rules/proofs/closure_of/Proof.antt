@@ -1,5 +1,5 @@
 -- The closure of the set, cut.
-use Rattle.stores.specs.Stores.{closure}
+use Rattle.set_closure.specs.Stores.{closure}
 use Rattle.held_rules.specs.HeldRules.{held_rules}
 use Rattle.held_rules.specs.HeldRuleLaws.{closure_read}
 use Prim.Native.Nat.{ℕ, ◌%◌}

@@ -1,7 +1,7 @@
 -- After i turns the set has the conclusions of the first i rules.
-use Rattle.list_laws.specs.Tabulate.{tabulate}
-use Rattle.stores.specs.Stores.{conclusions}
-use Rattle.sheets.specs.SheetLimits.{max_rules}
+use Rattle.set_closure.specs.Tabulate.{tabulate}
+use Rattle.set_closure.specs.Stores.{conclusions}
+use Rattle.set_closure.specs.SheetLimits.{max_rules}
 use Rattle.held_rules.specs.HeldRules.{held_rule, held_count}
 use Rattle.held_rules.specs.HeldRuleLaws.{united_none, united_next, count_fits}
 use borrow.Author.Rules.{rules}

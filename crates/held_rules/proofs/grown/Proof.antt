@@ -1,6 +1,6 @@
 -- After i turns the set has the conclusions of those of the first i rules whose premises the given set includes.
 use mathlib.Core.Logic.{⊎_elim}
-use Rattle.sheets.specs.SheetLimits.{max_rules}
+use Rattle.set_closure.specs.SheetLimits.{max_rules}
 use Rattle.held_rules.specs.HeldRuleLaws.{GrownTo, grown_none, grown_fired, grown_idle, grown_all}
 use Rattle.held_rules.specs.HeldRules.{held_count}
 use borrow.Author.Rules.{rules}

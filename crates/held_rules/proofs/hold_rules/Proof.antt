@@ -3,7 +3,7 @@ use native.Mathlib.Omega.{arith}
 use Prim.Native.Nat.{ℕ, suc, ◌+◌, ◌-◌, ◌*◌, ◌/◌, ◌%◌, ◌^◌, ◌≤◌, ◌<◌}
 use mathlib.Core.Path.{◌≡◌, refl, sym, ap, ◌∙◌}
 use lib.ListN.{length}
-use Rattle.list_laws.specs.Frames.{outside_again, outside_wider, outside_set}
+use Rattle.set_closure.specs.Frames.{outside_again, outside_wider, outside_set}
 use Rattle.held_rules.specs.HeldRules.{least_at, rules_end}
 use Rattle.held_rules.specs.HeldRuleLaws.{least_held}
 use borrow.Author.Rules.{rules}

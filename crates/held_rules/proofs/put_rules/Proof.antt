@@ -1,7 +1,7 @@
 -- After i turns the first i rules stand in their places, and from place n on rules without a conclusion.
 use lib.ListN.{length-set}
 use mathlib.Core.Logic.{⊎_elim}
-use Rattle.sheets.specs.SheetLimits.{max_rules}
+use Rattle.set_closure.specs.SheetLimits.{max_rules}
 use Rattle.held_rules.specs.HeldRuleLaws.{PutTo, put_none, put_next, put_all}
 use borrow.Author.Rules.{rules}
 use native.Mathlib.Omega.{arith}

@@ -3,7 +3,7 @@ use borrow.Author.Rules.{rules}
 use native.Mathlib.Omega.{arith}
 use Prim.Native.Nat.{◌+◌, ◌/◌, ◌^◌}
 use lib.ListN.{get_or}
-use Rattle.list_laws.specs.Frames.{outside_set}
+use Rattle.closure_table.specs.Frames.{outside_set}
 use Rattle.label_search.specs.LabelScanLaws.{least_alone, numbers_distinct, sorted_labels, sorted_same}
 use Rattle.label_search.proofs.labels_from.Statement.{statement}
 use Rattle.label_search.proofs.labels_from.Tie as tie

@@ -5,34 +5,31 @@ use Rattle.label_tests.specs.LabelTestLaws.{inside_later, inside_before, inside_
 use Rattle.label_tests.proofs.inside_from.Statement.{statement}
 use Rattle.label_tests.proofs.inside_from.Tie as tie
 
-inside-at-requires : tie.Need-inside-at-requires
+inside-at-requires : tie.Need-inside_at-i-requires
 inside-at-requires c κs = search rules
 
-returns : tie.Need-returns
+returns : tie.Need-returns-then-i-end
 returns c =
-    let start = c.before.before.before in
-    let x = start.args in
-    let i = c.before.inside-at in
-    inside_later x.work.now x.first x.end x.hint x.a start.requires.0 start.requires.1 i.result i.ensures c.if1.true
+    let x = c.args in
+    let i = c.inside_at-i in
+    inside_later x.work.now x.first x.end x.hint x.a c.requires.0 c.requires.1 i.result i.ensures c.if-i-end.true
 
-inside-at-requires-2 : tie.Need-inside-at-requires-2
+inside-at-requires-2 : tie.Need-inside_at-j-requires
 inside-at-requires-2 c κs = search rules
 
-returns-3 : tie.Need-returns-3
+returns-3 : tie.Need-returns
 returns-3 c =
-    let start = c.before.before.before.before.before in
-    let x = start.args in
-    let i = c.before.before.before.inside-at in
-    let j = c.before.inside-at2 in
-    inside_nowhere x.work.now x.first x.end x.hint x.a start.requires.0 start.requires.1 i.result j.result i.ensures
+    let x = c.args in
+    let i = c.inside_at-i in
+    let j = c.inside_at-j in
+    inside_nowhere x.work.now x.first x.end x.hint x.a c.requires.0 c.requires.1 i.result j.result i.ensures
     (omega arith) j.ensures (omega arith)
 
-returns-2 : tie.Need-returns-2
+returns-2 : tie.Need-returns-then-j-hint
 returns-2 c =
-    let start = c.before.before.before.before.before in
-    let x = start.args in
-    let j = c.before.inside-at2 in
-    inside_before x.work.now x.first x.end x.hint x.a start.requires.0 start.requires.1 j.result j.ensures c.if2.true
+    let x = c.args in
+    let j = c.inside_at-j in
+    inside_before x.work.now x.first x.end x.hint x.a c.requires.0 c.requires.1 j.result j.ensures c.if-j-hint.true
 
-pub inside-from-spec : {M : Type 1} → statement M
-inside-from-spec = tie.close (tie.spec inside-at-requires returns inside-at-requires-2 returns-2 returns-3)
+pub inside_from_spec : {M : Type 1} → statement M
+inside_from_spec = tie.close (tie.spec inside-at-requires returns inside-at-requires-2 returns-2 returns-3)

@@ -5,7 +5,7 @@ use Prim.Native.Nat.{ℕ, ◌+◌}
 use native.Mathlib.Omega.{arith}
 use borrow.Author.Rules.{rules}
 use lib.ListN.{length, get_or}
-use Rattle.list_laws.specs.Frames.{outside_same, outside_then}
+use Rattle.set_digits.specs.Frames.{outside_same, outside_then}
 use Rattle.set_digits.specs.SetDigits.{words_of}
 use Rattle.label_walk.specs.LabelWalk.{numbers_at, free_sets}
 use Rattle.label_walk.specs.ClearedSets.{numbers_one}

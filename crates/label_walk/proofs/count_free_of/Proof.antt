@@ -4,8 +4,8 @@ use Prim.Native.Nat.{ℕ, ◌-◌, ◌^◌}
 use native.Mathlib.Omega.{arith}
 use lib.Pow.{pow_mono}
 use borrow.Author.Rules.{rules}
-use Rattle.ordered_search.specs.OrderedSearch.{fact_count}
-use Rattle.search_laws.specs.SizeLaws.{count_most}
+use Rattle.set_digits.specs.OrderedSearch.{fact_count}
+use Rattle.set_digits.specs.SizeLaws.{count_most}
 use Rattle.label_walk.specs.FreeSets.{count_fits, free_of}
 use Rattle.label_walk.proofs.count_free_of.Statement.{statement}
 use Rattle.label_walk.proofs.count_free_of.Tie as tie

@@ -4,7 +4,7 @@ use Prim.Native.Nat.{◌*◌, ◌%◌, ◌^◌}
 use native.Mathlib.Omega.{arith}
 use lib.Pow.{pow_mono}
 use borrow.Author.Rules.{rules}
-use Rattle.sheets.specs.SheetLimits.{max_facts}
+use Rattle.set_digits.specs.SheetLimits.{max_facts}
 use Rattle.set_digits.specs.WordDigits.{one_shifted}
 use Rattle.label_walk.proofs.sets_of.Statement.{statement}
 use Rattle.label_walk.proofs.sets_of.Tie as tie

@@ -4,8 +4,8 @@ use Prim.Native.Nat.{◌-◌, ◌≤◌}
 use borrow.Author.Rules.{rules}
 use Rattle.sheet_types.specs.NodeTable.{nodes_of}
 use Rattle.sheet_types.specs.HeldSheet.{configuration, nodes_in}
-use Rattle.sheet_laws.specs.Ranks.{rank_of}
-use Rattle.tell_ask_visits.specs.TellAskLaws.{eight_places, counted}
+use Rattle.threads_beside.specs.Ranks.{rank_of}
+use Rattle.node_walk.specs.TellAskLaws.{eight_places, counted}
 use Rattle.member_moves.specs.MovesFoundLaws.{SoFar, so_far_none, so_far_next, so_far_over, so_far_all, next_on, next_over}
 use Rattle.member_moves.proofs.moves_of.Statement.{statement}
 use Rattle.member_moves.proofs.moves_of.Tie as tie

@@ -6,7 +6,7 @@ use borrow.Author.Rules.{rules}
 use borrow.Author.Tests.{eqb-true}
 use Rattle.sheet_types.specs.NodeTable.{nodes_of}
 use Rattle.sheet_types.specs.HeldSheet.{configuration, nodes_in}
-use Rattle.tell_ask_visits.specs.TellAskLaws.{eight_places, counted}
+use Rattle.node_walk.specs.TellAskLaws.{eight_places, counted}
 use Rattle.node_walk.specs.NodeVisitLaws.{lent_nodes}
 use Rattle.member_moves.specs.MovesFoundLaws.{same_next, counted_same, pushed_thread, stored_thread, walked_next}
 use Rattle.member_moves.proofs.thread_moves.Statement.{statement}

@@ -1,7 +1,7 @@
 -- `enter` finds the place of the configuration first; it stands there, or there is no room, or it is put in there.
 use mathlib.Core.List.{List}
 use mathlib.Core.Bool.{Bool, true, false}
-use Rattle.sheets.specs.Sheet.{Configuration}
+use Rattle.move_laws.specs.Sheet.{Configuration}
 use Rattle.packing.specs.Packing.{stands_for}
 use Rattle.member_table.specs.MemberSearch.{Placed}
 use Rattle.member_table.specs.MemberEntered.{entered_old, entered_new, placed_apart}

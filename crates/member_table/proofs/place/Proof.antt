@@ -1,6 +1,6 @@
 -- Each turn of `place` keeps the place between the two ends and brings these closer.
 use mathlib.Core.List.{List}
-use Rattle.sheets.specs.Sheet.{Configuration}
+use Rattle.move_laws.specs.Sheet.{Configuration}
 use Rattle.packing.specs.Packing.{stands_for}
 use Rattle.member_table.specs.MemberSearch.{Halved, halved_first, found_side, low_side, high_side, placed_none}
 use borrow.Author.Rules.{rules}

@@ -1,5 +1,5 @@
 -- `store_of` takes the store out of the first number.
-use Rattle.sheets.specs.Sheet.{Configuration}
+use Rattle.move_laws.specs.Sheet.{Configuration}
 use native.Mathlib.Omega.{arith}
 use mathlib.Core.Path.{ap}
 use borrow.Author.Rules.{rules}

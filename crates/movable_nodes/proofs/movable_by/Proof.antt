@@ -1,7 +1,7 @@
 -- `movable_by` goes by the kind byte: a both and an either move where one of their parts does.
 use mathlib.Core.Path.{◌∙◌}
 use native.Mathlib.Omega.{arith}
-use Rattle.sheets.specs.SheetLimits.{max_nodes}
+use Rattle.sheet_types.specs.SheetLimits.{max_nodes}
 use Rattle.sheet_types.specs.NodeTable.{movables_of}
 use Rattle.movable_nodes.specs.MovabilityLaws.{mark_of_stop, mark_of_tell, mark_of_ask, mark_of_pair, pair_lower}
 use Rattle.movable_nodes.proofs.movable_by.Statement.{statement}

@@ -1,5 +1,5 @@
 -- `lowest` keeps the place where there is no new member, and else takes the lower of the two.
-use borrow.Author.Tests.{eq_eqb, ne_eqb}
+use borrow.Author.Tests.{eq-eqb, ne_eqb}
 use borrow.Author.Rules.{rules}
 use Rattle.move_entry.proofs.lowest.Statement.{statement}
 use Rattle.move_entry.proofs.lowest.Tie as tie
@@ -8,7 +8,7 @@ lesser-requires : tie.Need-lesser-requires
 lesser-requires c κs = search rules
 
 returns : tie.Need-returns
-returns c = simp (eq_eqb _ _ c.if1.true)
+returns c = simp (eq-eqb _ _ c.if1.true)
 
 returns-2 : tie.Need-returns-2
 returns-2 c = simp (ne_eqb _ _ c.before.if1.false, c.lesser.ensures)

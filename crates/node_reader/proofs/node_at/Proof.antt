@@ -3,8 +3,8 @@ use mathlib.Core.Path.{refl, sym, ◌∙◌}
 use borrow.Author.Rules.{rules}
 use Rattle.set_closure.specs.RuleTable.{rules_in}
 use Rattle.sheet_types.specs.SectionLaws.{answer_got, got_then, refused_then}
-use Rattle.sheet_laws.specs.FieldLaws.{kind_gets, first_gets}
-use Rattle.sheet_laws.specs.NodeFields.{node_fields_at}
+use Rattle.sheet_fields.specs.FieldLaws.{kind_gets, first_gets}
+use Rattle.sheet_fields.specs.NodeFields.{node_fields_at}
 use Rattle.node_reader.specs.NodesFound.{node_refused, node_got}
 use Rattle.node_reader.specs.StoredNode.{second_low}
 use Rattle.node_reader.proofs.node_at.Statement.{statement}

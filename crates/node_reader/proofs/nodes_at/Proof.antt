@@ -3,10 +3,10 @@ use mathlib.Core.Path.{sym, ◌∙◌}
 use native.Mathlib.Omega.{arith}
 use borrow.Author.Rules.{rules}
 use Rattle.set_closure.specs.RuleTable.{rules_in}
-use Rattle.sheets.specs.SheetLimits.{min_nodes, max_nodes}
-use Rattle.sheet_reading.specs.Reading.{nodes_at}
+use Rattle.set_closure.specs.SheetLimits.{min_nodes, max_nodes}
+use Rattle.sheet_types.specs.Reading.{nodes_at}
 use Rattle.sheet_types.specs.SectionLaws.{answer_got, got_then, refused_then}
-use Rattle.sheet_laws.specs.FieldLaws.{count_gets}
+use Rattle.sheet_fields.specs.FieldLaws.{count_gets}
 use Rattle.node_reader.specs.NodesSoFar.{nodes_refused}
 use Rattle.node_reader.proofs.nodes_at.Statement.{statement}
 use Rattle.node_reader.proofs.nodes_at.Tie as tie

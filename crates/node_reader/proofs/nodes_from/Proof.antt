@@ -4,7 +4,7 @@ use mathlib.Core.Path.{refl, subst, ◌∙◌}
 use native.Mathlib.Omega.{arith}
 use borrow.Author.Rules.{rules}
 use lib.ListN.{length}
-use Rattle.list_laws.specs.Tabulate.{tabulate_length}
+use Rattle.sheet_types.specs.Tabulate.{tabulate_length}
 use Rattle.set_closure.specs.RuleTable.{rules_in}
 use Rattle.sheet_types.specs.HeldSheet.{node_held, node_in}
 use Rattle.sheet_types.specs.NodeTable.{nodes_of, opened_of}

@@ -5,7 +5,7 @@ use borrow.Author.Tests.{not-true}
 use native.Mathlib.Omega.{arith}
 use Prim.Native.Nat.{ℕ, ◌+◌, ◌-◌, ◌<◌}
 use mathlib.Core.Path.{◌≡◌, ap, ◌∙◌}
-use Rattle.node_moves.specs.NodeMoves.{NodeBeside}
+use Rattle.threads_beside.specs.NodeMoves.{NodeBeside}
 use Rattle.threads_beside.specs.ThreadsBeside.{node_beside, node_for}
 use Rattle.sheet_types.specs.NodeTable.{nodes_of}
 use Rattle.sheet_types.specs.HeldSheet.{nodes_in}

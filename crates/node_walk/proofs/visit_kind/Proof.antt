@@ -1,7 +1,7 @@
 -- A node is visited as its kind byte says: that byte and the two fields beside it are the node's, and what it names is lent with it.
 use borrow.Author.Rules.{rules}
 use native.Mathlib.Omega.{arith}
-use Rattle.sheets.specs.Sheet.{node_of}
+use Rattle.sheet_types.specs.Sheet.{node_of}
 use Rattle.sheet_types.specs.NodeTable.{nodes_of}
 use Rattle.sheet_types.specs.HeldSheet.{nodes_in}
 use Rattle.node_walk.specs.NodeVisitLaws.{HeldBy, held_at, held_stop, held_tell, held_ask, held_both, held_either, parts_both, parts_either, lent_nodes, lent_known, stop_turn}

@@ -1,7 +1,7 @@
 -- Each turn loses nothing that is in reach and leaves less to do: once no node is left to visit, all that was in reach is collected.
 use borrow.Author.Rules.{rules}
 use native.Mathlib.Omega.{arith}
-use Rattle.sheet_laws.specs.Ranks.{rank_of}
+use Rattle.threads_beside.specs.Ranks.{rank_of}
 use Rattle.sheet_types.specs.NodeTable.{nodes_of}
 use Rattle.sheet_types.specs.HeldSheet.{nodes_in}
 use Rattle.nodes_to_visit.specs.NodesToVisit.{pending_in}

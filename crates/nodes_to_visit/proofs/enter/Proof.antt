@@ -2,8 +2,8 @@
 use lib.ListN.{take}
 use native.Mathlib.Omega.{arith}
 use borrow.Author.Rules.{rules}
-use Rattle.sheet_laws.specs.Ranks.{rank_of}
-use Rattle.node_moves.specs.NodeMoves.{NodeBeside}
+use Rattle.threads_beside.specs.Ranks.{rank_of}
+use Rattle.threads_beside.specs.NodeMoves.{NodeBeside}
 use Rattle.nodes_to_visit.specs.EntryPlaces.{entered_there, entered_put}
 use Rattle.nodes_to_visit.proofs.enter.Statement.{statement}
 use Rattle.nodes_to_visit.proofs.enter.Tie as tie

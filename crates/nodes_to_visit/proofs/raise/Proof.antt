@@ -4,7 +4,7 @@ use mathlib.Core.Path.{◌≡◌, refl, subst}
 use native.Mathlib.Omega.{arith}
 use borrow.Author.Rules.{rules}
 use lib.ListN.{length}
-use Rattle.list_laws.specs.RaisedNumbers.{Raised, raised_none, raised_next}
+use Rattle.packing.specs.RaisedNumbers.{Raised, raised_none, raised_next}
 use Rattle.nodes_to_visit.proofs.raise.Statement.{statement}
 use Rattle.nodes_to_visit.proofs.raise.Tie as tie
 

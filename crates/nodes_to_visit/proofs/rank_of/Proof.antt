@@ -1,6 +1,6 @@
 -- A node's rank is its number.
 use mathlib.Core.Path.{refl}
-use Rattle.sheet_laws.specs.Ranks.{rank_of}
+use Rattle.threads_beside.specs.Ranks.{rank_of}
 use Rattle.nodes_to_visit.proofs.rank_of.Statement.{statement}
 use Rattle.nodes_to_visit.proofs.rank_of.Tie as tie
 

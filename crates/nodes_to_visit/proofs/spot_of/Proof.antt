@@ -3,7 +3,7 @@ use Prim.Native.Nat.{◌-◌, ◌≤◌}
 use mathlib.Core.Path.{◌≡◌, sym, ◌∙◌, subst}
 use native.Mathlib.Omega.{arith}
 use borrow.Author.Rules.{rules}
-use Rattle.sheet_laws.specs.Ranks.{rank_of}
+use Rattle.threads_beside.specs.Ranks.{rank_of}
 use Rattle.nodes_to_visit.specs.NodesToVisit.{StaysAbove, AboveFrom}
 use Rattle.nodes_to_visit.specs.EntryPlaces.{NoneOf, side_same, side_above, side_none, spot_there, spot_new, above_next}
 use Rattle.nodes_to_visit.proofs.spot_of.Statement.{statement}

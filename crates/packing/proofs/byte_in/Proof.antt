@@ -1,6 +1,6 @@
 -- `byte_in` reads a thread below the count, and has 0 for every other.
 use lib.ListN.{take, length-take, get_or-eq_default}
-use lib.Seq.{get_or_take}
+use lib.Seq.{get_or-take}
 use native.Mathlib.Omega.{arith}
 use mathlib.Core.Path.{sym, ◌∙◌}
 use borrow.Author.Rules.{rules}
@@ -16,7 +16,7 @@ wide-u32-requires c κs = search rules
 returns : tie.Need-returns
 returns c =
     let g = c.before.before.before.before.args in
-    (c.wide-u32.ensures.0 ∙ sym (get_or_take g.count g.threads.now g.i 0 (omega arith)), c.wide-u32.ensures.1)
+    (c.wide-u32.ensures.0 ∙ sym (get_or-take g.count g.threads.now g.i 0 (omega arith)), c.wide-u32.ensures.1)
 
 returns-2 : tie.Need-returns-2
 returns-2 c =

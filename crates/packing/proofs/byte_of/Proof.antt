@@ -1,5 +1,5 @@
 -- `byte_of` goes by the number of the byte, as the definition does.
-use borrow.Author.Tests.{eq_eqb, ne_eqb}
+use borrow.Author.Tests.{eq-eqb, ne_eqb}
 use borrow.Author.Rules.{rules}
 use Rattle.packing.proofs.byte_of.Statement.{statement}
 use Rattle.packing.proofs.byte_of.Tie as tie
@@ -8,19 +8,19 @@ cast-result : tie.Need-overflow-cast-result
 cast-result c = search rules
 
 returns : tie.Need-returns
-returns c = simp (eq_eqb _ _ c.if1.true)
+returns c = simp (eq-eqb _ _ c.if1.true)
 
 cast-result-2 : tie.Need-overflow-cast-result-2
 cast-result-2 c = search rules
 
 returns-2 : tie.Need-returns-2
-returns-2 c = simp (eq_eqb _ _ c.if2.true, ne_eqb _ _ c.before.if1.false)
+returns-2 c = simp (eq-eqb _ _ c.if2.true, ne_eqb _ _ c.before.if1.false)
 
 cast-result-3 : tie.Need-overflow-cast-result-3
 cast-result-3 c = search rules
 
 returns-3 : tie.Need-returns-3
-returns-3 c = simp (eq_eqb _ _ c.if3.true, ne_eqb _ _ c.before.if2.false, ne_eqb _ _ c.before.before.if1.false)
+returns-3 c = simp (eq-eqb _ _ c.if3.true, ne_eqb _ _ c.before.if2.false, ne_eqb _ _ c.before.before.if1.false)
 
 cast-result-4 : tie.Need-overflow-cast-result-4
 cast-result-4 c = search rules

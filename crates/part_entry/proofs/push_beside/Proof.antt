@@ -1,7 +1,7 @@
 -- A part whose mark is 0 is passed over; for any other the threads are joined, and it is entered with them where they are not too many.
 use lib.ListN.{get_or}
 use mathlib.Core.Path.{refl, sym, ◌∙◌}
-use Rattle.sheet_laws.specs.Ranks.{rank_of}
+use Rattle.threads_beside.specs.Ranks.{rank_of}
 use Rattle.sheet_types.specs.NodeTable.{opened_of, movables_of}
 use Rattle.sheet_types.specs.HeldSheet.{opened_in}
 use Rattle.part_entry.specs.PartEntryLaws.{beside_few, part_too_long, part_stored}

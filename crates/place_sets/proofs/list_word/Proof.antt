@@ -12,86 +12,85 @@ use Rattle.place_sets.specs.Listing.{Partly, partly_room, partly_first, partly_p
 use Rattle.place_sets.proofs.list_word.Statement.{statement}
 use Rattle.place_sets.proofs.list_word.Tie as tie
 
-abbrev invariant-loop : tie.invariant-loop
+abbrev invariant-loop : tie.invariant-loop-rest
 invariant-loop set k n list₀ from rest₀ a₀ list rest a = (rest < 2 ^ 64) × (length list ≡ length list₀) × (from ≤ a) × Partly set n k rest list₀ list a
 
-abbrev decreases-loop : tie.decreases-loop
+abbrev decreases-loop : tie.decreases-loop-rest
 decreases-loop set k n list₀ from rest₀ a₀ list rest a = rest
 
 -- the lowest digit of the rest
-low : (c : tie.In-loop invariant-loop decreases-loop)
-    → (count_trailing_zeros 64 c.before.loop.rest < 64)
-    × Lowest c.before.loop.rest (count_trailing_zeros 64 c.before.loop.rest) (bit_and c.before.loop.rest (c.before.loop.rest - 1))
-low c = lowest 64 c.before.loop.rest (omega arith) c.before.loop.invariant.0
+low : (c : tie.In-loop-rest invariant-loop decreases-loop)
+    → (count_trailing_zeros 64 c.loop-rest.rest < 64)
+    × Lowest c.loop-rest.rest (count_trailing_zeros 64 c.loop-rest.rest) (bit_and c.loop-rest.rest (c.loop-rest.rest - 1))
+low c = lowest 64 c.loop-rest.rest (omega arith) c.loop-rest.invariant.0
 
 -- the listed places are no more than the numbers below the next one
-room : (c : tie.In-loop invariant-loop decreases-loop)
-    → c.before.loop.a ≤ 64 * c.before.before.before.args.k + count_trailing_zeros 64 c.before.loop.rest
-room c = partly_room c.before.loop.invariant.3 (count_trailing_zeros 64 c.before.loop.rest) (low c).1.one
+room : (c : tie.In-loop-rest invariant-loop decreases-loop)
+    → c.loop-rest.a ≤ 64 * c.args.k + count_trailing_zeros 64 c.loop-rest.rest
+room c = partly_room c.loop-rest.invariant.3 (count_trailing_zeros 64 c.loop-rest.rest) (low c).1.one
 
-mul-rest : tie.Need-overflow-mul-rest invariant-loop decreases-loop
+mul-rest : tie.Need-offset_bounds-set-k invariant-loop decreases-loop
 mul-rest c = search rules
 
-shared-slice-read-rest : tie.Need-shared-slice-read-rest invariant-loop decreases-loop
+shared-slice-read-rest : tie.Need-bounds-set-k invariant-loop decreases-loop
 shared-slice-read-rest c = search rules
 
-loop-holds : tie.Need-loop-init invariant-loop decreases-loop
-loop-holds c = ((c.shared-slice-known.given c.before.args.k).fits, refl, omega arith, partly_first c.before.requires.4)
+loop-holds : tie.Need-loop-rest-init invariant-loop decreases-loop
+loop-holds c = ((c.shared_slice_known-1.given c.args.k).fits, refl, omega arith, partly_first c.requires.4)
 
-mul-i : tie.Need-overflow-mul-i invariant-loop decreases-loop
+mul-i : tie.Need-overflow_mul-i invariant-loop decreases-loop
 mul-i c = search rules
 
-cast-i : tie.Need-overflow-cast-i invariant-loop decreases-loop
+cast-i : tie.Need-overflow_cast-i invariant-loop decreases-loop
 cast-i c = omega (arith, (low c).0)
 
-add-i : tie.Need-overflow-add-i invariant-loop decreases-loop
+add-i : tie.Need-overflow_add-i invariant-loop decreases-loop
 add-i c = omega (arith, (low c).0)
 
-cast-list : tie.Need-overflow-cast-list invariant-loop decreases-loop
+cast-list : tie.Need-overflow_cast-list invariant-loop decreases-loop
 cast-list c = search rules
 
-mul-list : tie.Need-overflow-mul-list invariant-loop decreases-loop
+mul-list : tie.Need-offset_bounds-list-a invariant-loop decreases-loop
 mul-list c = omega (arith, room c.before)
 
-slice-write-list : tie.Need-slice-write-list invariant-loop decreases-loop
+slice-write-list : tie.Need-bounds-list-a invariant-loop decreases-loop
 slice-write-list c = omega (arith, room c.before)
 
-add_a : tie.Need-overflow-add-a invariant-loop decreases-loop
+add_a : tie.Need-overflow_add-a invariant-loop decreases-loop
 add_a c = omega (arith, room c.before)
 
-sub-rest : tie.Need-overflow-sub-rest invariant-loop decreases-loop
+sub-rest : tie.Need-overflow_sub-rest invariant-loop decreases-loop
 sub-rest c = search rules
 
-loop-less : tie.Need-loop-smaller invariant-loop decreases-loop
-loop-less c = let r = c.before.before.loop.rest in omega (arith, and_le_r r (r - 1))
+loop-less : tie.Need-loop-rest-smaller invariant-loop decreases-loop
+loop-less c = let r = c.loop-rest.rest in omega (arith, and_le_r r (r - 1))
 
-loop-again : tie.Need-loop-preserved invariant-loop decreases-loop
+loop-again : tie.Need-loop-rest-preserved invariant-loop decreases-loop
 loop-again c =
-    let i = c.before in
-    let l = i.before.loop in
-    let o = low i in (
+    let l = c.loop-rest in
+    let o = low c.before in (
       omega (arith, and_le_r l.rest (l.rest - 1)),
-      ⊎_elim (λ w. ap length w.1 ∙ simp length-set l.invariant.1) (λ w. ap length w.1 ∙ l.invariant.1) c.if1.branch,
-      ⊎_elim (λ w. omega (arith, w.2)) (λ w. omega (arith, w.2)) c.if1.branch,
-      ⊎_elim (λ w. rw (w.1, w.2) (partly_put l.invariant.3 o.1 o.0 w.0.taken (omega (arith, room i))))
-          (λ w. rw (w.1, w.2) (partly_past l.invariant.3 o.1 o.0 w.0.left))
-          c.if1.branch,
+      ⊎_elim (λ w. ap length w.list-is ∙ simp length-set l.invariant.1) (λ w. ap length w.list-is ∙ l.invariant.1) c.if-i-n.branch-raw,
+      ⊎_elim (λ w. omega (arith, w.a-is)) (λ w. omega (arith, w.a-is)) c.if-i-n.branch-raw,
+      ⊎_elim (λ w. rw (w.list-is, w.a-is) (partly_put l.invariant.3 o.1 o.0 w.if-i-n.true (omega (arith, room c.before))))
+          (λ w. rw (w.list-is, w.a-is) (partly_past l.invariant.3 o.1 o.0 w.if-i-n.false))
+          c.if-i-n.branch-raw,
     )
 
-same_length : tie.Need-same-length invariant-loop decreases-loop
-same_length c = c.before.loop.invariant.1
+same_length : tie.Need-shape_of-list invariant-loop decreases-loop
+same_length c = c.loop-rest.invariant.1
 
 returns : tie.Need-returns invariant-loop decreases-loop
 returns c =
-    let args = c.before.before.before.args in
-    let l = c.before.loop in
+    let args = c.args in
+    let l = c.loop-rest in
     let e : l.rest ≡ 0 = omega arith in (
       l.invariant.2,
       partly_last (subst (λ (r : ℕ). Partly args.set.now args.n args.k r args.list.now l.list l.a) e l.invariant.3),
     )
 
-pub list-word-spec : {M : Type 1} → statement M
-list-word-spec =
+pub list_word_spec : {M : Type 1} → statement M
+list_word_spec =
     tie.close
     (tie.spec
     invariant-loop

@@ -1,5 +1,5 @@
 -- `reading_line` writes the line of what `read_choice` gives, case by case.
-use Rattle.sheet_reading.specs.Reading.{read_choice}
+use Rattle.sheet_types.specs.Reading.{read_choice}
 use Rattle.reading_text.specs.ReadingText.{line_refused, line_read}
 use borrow.Author.Rules.{rules}
 use Rattle.reading_text.proofs.reading_line.Statement.{statement}

@@ -5,7 +5,7 @@ use Prim.Native.Nat.{ℕ, ◌+◌, ◌-◌, ◌*◌, ◌≤◌}
 use native.Mathlib.Omega.{arith}
 use lib.ListN.{length}
 use borrow.Author.Rules.{rules}
-use Rattle.packing.specs.PackingLaws.{packed_count}
+use Rattle.report_records.specs.PackingLaws.{packed_count}
 use Rattle.report_records.specs.RecordLayout.{PackedAt, member_bytes_at}
 use Rattle.report_records.specs.RecordsStored.{member_length_lem}
 use Rattle.report_bytes.specs.BytesStored.{joined, joined_none, joined_length}

@@ -4,8 +4,8 @@ use mathlib.Core.Path.{◌≡◌, ◌∙◌, subst}
 use Prim.Native.Nat.{ℕ, ◌-◌, ◌≤◌}
 use native.Mathlib.Omega.{arith}
 use borrow.Author.Rules.{rules}
-use Rattle.text.specs.StoredText.{stored_length, stored_then}
-use Rattle.text.specs.Slices.{Stored}
+use Rattle.report_records.specs.StoredText.{stored_length, stored_then}
+use Rattle.report_records.specs.Slices.{Stored}
 use Rattle.report_bytes.specs.BytesStored.{joined, joined_room, stored_none, stored_next, stored_front}
 use Rattle.report_records.specs.RecordLayout.{step_bytes_at}
 use Rattle.report_bytes.proofs.put_trail.Statement.{statement}

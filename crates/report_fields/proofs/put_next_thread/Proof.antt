@@ -2,7 +2,7 @@
 use mathlib.Core.Path.{ap}
 use mathlib.Core.List.{◌∷◌}
 use Prim.Native.Nat.{ℕ}
-use Rattle.printed_lines.specs.Decimal.{decimal}
+use Rattle.text.specs.Decimal.{decimal}
 use Rattle.comparison.specs.Print.{plus}
 use Rattle.text.specs.StoredText.{stored_then}
 use Rattle.report_fields.specs.TextLaws.{byte_short, stored_as}

@@ -4,7 +4,7 @@ use Prim.Native.Nat.{ℕ, ◌+◌, ◌-◌}
 use mathlib.Core.Path.{ap, ◌∙◌}
 use borrow.Author.Rules.{rules}
 use mathlib.Core.List.{◌++◌}
-use Rattle.printed_lines.specs.Decimal.{decimal}
+use Rattle.text.specs.Decimal.{decimal}
 use Rattle.comparison.specs.Print.{more_threads}
 use Rattle.text.specs.StoredText.{stored_then}
 use Rattle.report_fields.specs.AnswerFields.{threads_in}

@@ -1,6 +1,6 @@
 -- The number has at most five digits, so that the field ends at most six places further.
 use mathlib.Core.Path.{ap}
-use Rattle.printed_lines.specs.Lines.{field}
+use Rattle.text.specs.Lines.{field}
 use Rattle.report_fields.specs.TextLaws.{word_short, stored_as}
 use borrow.Author.Rules.{rules}
 use native.Mathlib.Omega.{arith}

@@ -3,9 +3,9 @@ use native.Mathlib.Omega.{arith}
 use Prim.Native.Nat.{ℕ, ◌+◌}
 use mathlib.Core.Path.{ap}
 use borrow.Author.Rules.{rules}
-use Rattle.printed_lines.specs.Lines.{field}
-use Rattle.sheets.specs.SheetBytes.{word}
-use Rattle.comparison.specs.Print.{threads_text}
+use Rattle.text.specs.Lines.{field}
+use Rattle.report_fields.specs.SheetBytes.{word}
+use Rattle.report_fields.specs.Print.{threads_text}
 use Rattle.text.specs.StoredText.{stored_then}
 use Rattle.report_fields.specs.AnswerFields.{threads_in}
 use Rattle.report_fields.specs.TextLaws.{position_short, stored_as}

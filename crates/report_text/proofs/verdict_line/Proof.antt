@@ -2,7 +2,7 @@
 use mathlib.Core.Path.{sym, ap}
 use mathlib.Core.Bool.{Bool}
 use mathlib.Core.List.{[], ◌∷◌}
-use Rattle.printed_lines.specs.Lines.{line}
+use Rattle.text.specs.Lines.{line}
 use Rattle.report_text.specs.AnswerText.{word_of}
 use Rattle.report_fields.specs.TextLaws.{stored_as}
 use native.Mathlib.Omega.{arith}

@@ -4,7 +4,7 @@ use mathlib.Core.List.{List}
 use lib.ListN.{get_or}
 use lib.Dec.{eqb}
 use borrow.Author.Tests.{eqb-true, eqb-false}
-use Rattle.list_laws.specs.TestLaws.{true_false, Tested, tested, passes, fails}
+use Rattle.work_layout.specs.TestLaws.{true_false, Tested, tested, passes, fails}
 use Rattle.class_splits.specs.ClassedPlaces.{chosen_in}
 use borrow.Author.Rules.{rules}
 use native.Mathlib.Omega.{arith}

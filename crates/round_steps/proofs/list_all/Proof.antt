@@ -1,10 +1,10 @@
 -- `list_all` stores each place at its own.
 use mathlib.Core.List.{List}
 use lib.ListN.{length, get_or, set, length-set}
-use lib.Seq.{get_or-set_same, get_or_set_other}
+use lib.Seq.{get_or-set_same, get_or-set_other}
 use lib.Dec.{eqb}
 use borrow.Author.Tests.{eqb-true, eqb-false}
-use Rattle.list_laws.specs.TestLaws.{Tested, tested, passes, fails}
+use Rattle.work_layout.specs.TestLaws.{Tested, tested, passes, fails}
 use borrow.Author.Rules.{rules}
 use native.Mathlib.Omega.{arith}
 use Prim.Native.Nat.{ℕ, ◌+◌, ◌-◌, ◌≤◌, ◌<◌}
@@ -52,7 +52,7 @@ loop-again c =
         ap (λ (z : ℕ). get_or (set list i i) z 0) x ∙ get_or-set_same list i i 0 b ∙ sym x
     go list i b f j h (fails e) =
         let d : j ≡ i → ⊥ = eqb-false j i e in
-        get_or_set_other list i j i 0 d ∙ f j (omega arith)
+        get_or-set_other list i j i 0 d ∙ f j (omega arith)
 
 same_length : tie.Need-same-length invariant-loop decreases-loop
 same_length c = search rules

@@ -3,8 +3,8 @@ use mathlib.Core.List.{List}
 use lib.ListN.{length, get_or}
 use lib.Dec.{eqb}
 use borrow.Author.Tests.{eqb-true, eqb-false}
-use Rattle.list_laws.specs.TestLaws.{Tested, tested, passes, fails}
-use Rattle.round_lines.specs.SetLinesFound.{InList}
+use Rattle.work_layout.specs.TestLaws.{Tested, tested, passes, fails}
+use Rattle.class_splits.specs.SetLinesFound.{InList}
 use Rattle.round_steps.specs.AwakeMembers.{list_new}
 use Rattle.round_steps.specs.SplitRounds.{Splitting, splitting_first, splitting_ready, splitting_next}
 use borrow.Author.Rules.{rules}

@@ -1,7 +1,7 @@
 -- What the frame refuses is handed up, and leaves the answer slice as it is; over the set that it leaves the rounds are made, and then
 -- the work slice is cleared.
 use borrow.Author.Rules.{rules}
-use Rattle.found_set.specs.FoundSet.{limits_of}
+use Rattle.call_frame.specs.FoundSet.{limits_of}
 use Rattle.after_rounds.specs.AfterRounds.{after_bytes}
 use Rattle.after_rounds.specs.AfterRoundsRead.{afters_returned}
 use Rattle.pair_calls.specs.PairAnswered.{pair_refused, pair_ready, pair_room, pair_given}

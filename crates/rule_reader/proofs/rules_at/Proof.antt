@@ -1,10 +1,10 @@
 -- The count is handed on to the rules.
 use lib.ListN.{replicate}
-use Rattle.set_closure.specs.RuleTable.{rules_in}
-use Rattle.sheets.specs.SheetLimits.{max_rules}
-use Rattle.sheet_reading.specs.Reading.{rules_at}
+use Rattle.sheet_types.specs.RuleTable.{rules_in}
+use Rattle.sheet_types.specs.SheetLimits.{max_rules}
+use Rattle.sheet_types.specs.Reading.{rules_at}
 use Rattle.sheet_types.specs.SectionLaws.{answer_got, answer_refused, refused_with, refused_then, got_then}
-use Rattle.sheet_laws.specs.FieldLaws.{count_gets}
+use Rattle.sheet_fields.specs.FieldLaws.{count_gets}
 use mathlib.Core.Path.{sym, ◌∙◌}
 use borrow.Author.Rules.{rules}
 use Rattle.rule_reader.proofs.rules_at.Statement.{statement}

@@ -1,13 +1,13 @@
 -- After i rules, those in memory and what is left to read give what the whole gives.
 use mathlib.Core.List.{[]}
 use lib.ListN.{length, replicate, length-set}
-use Rattle.sheet_reading.specs.Reading.{got, rule_at, records_from}
-use Rattle.sheet_laws.specs.RecordLaws.{records_none, records_refused}
-use Rattle.sheet_laws.specs.StoredRecords.{stored_from, stored_none, stored_refused, stored_next}
+use Rattle.sheet_types.specs.Reading.{got, rule_at, records_from}
+use Rattle.sheet_fields.specs.RecordLaws.{records_none, records_refused}
+use Rattle.sheet_fields.specs.StoredRecords.{stored_from, stored_none, stored_refused, stored_next}
 use Rattle.sheet_types.specs.SectionLaws.{answer_got, answer_refused, refused_with}
-use Rattle.set_closure.specs.RuleTable.{rules_in}
-use Rattle.sheet_laws.specs.FieldLaws.{set_gets}
-use Rattle.sheet_laws.specs.SectionLaws.{rule_no_premise, rule_no_conclusion, rule_got}
+use Rattle.sheet_types.specs.RuleTable.{rules_in}
+use Rattle.sheet_fields.specs.FieldLaws.{set_gets}
+use Rattle.sheet_fields.specs.SectionLaws.{rule_no_premise, rule_no_conclusion, rule_got}
 use Rattle.rule_reader.specs.RuleLoop.{rule_item, store_rule, rules_first, rules_next}
 use borrow.Author.Rules.{rules}
 use native.Mathlib.Omega.{arith}

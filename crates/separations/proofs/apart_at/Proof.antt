@@ -1,6 +1,6 @@
 -- `apart_at` asks `apart` about the classes of the two members.
 use mathlib.Core.Path.{ap₂, ◌∙◌}
-use Rattle.kept_classes.specs.ClassBirths.{apart}
+use Rattle.class_rounds.specs.ClassBirths.{apart}
 use Prim.Native.Nat.{ℕ}
 use borrow.Author.Rules.{rules}
 use Rattle.separations.proofs.apart_at.Statement.{statement}

@@ -1,6 +1,6 @@
 -- `choose_first` goes down from place to place, so the first member of each class stays.
 use lib.ListN.{length}
-use Rattle.class_splits.specs.ChosenPlaces.{chosen_class}
+use Rattle.class_rounds.specs.ChosenPlaces.{chosen_class}
 use Rattle.separations.specs.FirstMembers.{FirstsFound, firsts_none, firsts_next}
 use borrow.Author.Rules.{rules}
 use native.Mathlib.Omega.{arith}

@@ -3,7 +3,7 @@ use lib.ListN.{length}
 use Rattle.separations.specs.NumberedPlaces.{Numbering, numbering_first, numbering_class, numbering_next}
 use Rattle.separations.specs.FirstMembers.{firsts_classed, firsts_chosen}
 use Rattle.separations.specs.ReportClasses.{renumbered}
-use Rattle.class_splits.specs.ClassedPlaces.{classed_count}
+use Rattle.class_rounds.specs.ClassedPlaces.{classed_count}
 use mathlib.Core.Path.{subst, ◌≡◌, refl}
 use borrow.Author.Rules.{rules}
 use native.Mathlib.Omega.{arith}

@@ -3,7 +3,7 @@ use mathlib.Core.Path.{refl}
 use mathlib.Core.List.{List, [], ◌∷◌}
 use Prim.Native.Nat.{ℕ}
 use borrow.Author.Rules.{rules}
-use Rattle.stores.specs.FactSets.{digit}
+use Rattle.search_laws.specs.FactSets.{digit}
 use Rattle.set_digits.specs.AboveTable.{right_entry}
 use Rattle.set_digits.proofs.above.Statement.{statement}
 use Rattle.set_digits.proofs.above.Tie as tie

@@ -6,8 +6,8 @@ use mathlib.Core.Bool.{true, cond, not, ◌&&◌}
 use mathlib.Core.Logic.{⊎_elim}
 use Prim.Native.Nat.{◌+◌, ◌-◌, ◌/◌, ◌%◌, min}
 use lib.ListN.{get_or}
-use Rattle.stores.specs.FactsOutside.{outside}
-use Rattle.stores.specs.Stores.{includes}
+use Rattle.search_laws.specs.FactsOutside.{outside}
+use Rattle.search_laws.specs.Stores.{includes}
 use Rattle.set_digits.specs.SetDigits.{mark}
 use Rattle.set_digits.specs.WordDigits.{places_between, between_digits, digit_cleared, has_includes, includes_passes, includes_fails}
 use Rattle.set_digits.specs.FilledWords.{Filled, filled_later, filled_marked}

@@ -7,8 +7,8 @@ use mathlib.Core.Logic.{⊎_elim}
 use Prim.Native.Nat.{◌+◌, ◌-◌, ◌/◌, ◌%◌, ◌≤◌}
 use lib.ListN.{get_or}
 use lib.Bits.{bit_and}
-use Rattle.stores.specs.FactsOutside.{outside}
-use Rattle.stores.specs.Stores.{includes}
+use Rattle.search_laws.specs.FactsOutside.{outside}
+use Rattle.search_laws.specs.Stores.{includes}
 use Rattle.set_digits.specs.SetDigits.{mark}
 use Rattle.set_digits.specs.WordDigits.{places_between, between_digits, digit_kept, includes_passes, includes_fails}
 use Rattle.set_digits.specs.FilledWords.{Filled, filled_none, filled_next, filled_before, filled_marked}

@@ -6,7 +6,7 @@ use lib.Dec.{ltb}
 use lib.Pow.{pow_mono, pow_pos}
 use borrow.Author.Rules.{rules}
 use borrow.Author.Tests.{lt-ltb}
-use Rattle.stores.specs.FactSets.{digit}
+use Rattle.search_laws.specs.FactSets.{digit}
 use Rattle.set_digits.specs.SetDigits.{bit}
 use Rattle.set_digits.specs.WordDigits.{one_shifted, digit_ones}
 use Rattle.set_digits.proofs.first_word.Statement.{statement}

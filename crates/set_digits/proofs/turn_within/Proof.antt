@@ -6,7 +6,7 @@ use mathlib.Core.Bool.{cond}
 use Prim.Native.Nat.{◌+◌, ◌-◌, ◌/◌, ◌%◌, ◌≤◌}
 use lib.Dec.{eqb}
 use lib.ListN.{get_or}
-use Rattle.stores.specs.FactsOutside.{outside}
+use Rattle.search_laws.specs.FactsOutside.{outside}
 use Rattle.set_digits.specs.SetDigits.{mark}
 use Rattle.set_digits.specs.WordDigits.{digit_bit, digit_cleared}
 use Rattle.set_digits.specs.FilledWords.{Filled, filled_none, filled_next, filled_before, filled_later, filled_marked}

@@ -1,7 +1,7 @@
 -- `without` takes away digits that the union has.
 use native.Mathlib.Omega.{arith}
 use borrow.Author.Rules.{rules}
-use Rattle.store_laws.specs.OutsideLaws.{or_above}
+use Rattle.search_laws.specs.OutsideLaws.{or_above}
 use Rattle.set_digits.proofs.without.Statement.{statement}
 use Rattle.set_digits.proofs.without.Tie as tie
 

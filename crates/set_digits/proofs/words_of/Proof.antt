@@ -4,7 +4,7 @@ use mathlib.Core.Path.{◌≡◌}
 use native.Mathlib.Omega.{arith}
 use lib.Pow.{pow_mono}
 use borrow.Author.Rules.{rules}
-use Rattle.sheets.specs.SheetLimits.{max_facts}
+use Rattle.search_laws.specs.SheetLimits.{max_facts}
 use Rattle.set_digits.specs.WordDigits.{one_shifted}
 use Rattle.set_digits.specs.MarkedLaws.{words_one}
 use Rattle.set_digits.proofs.words_of.Statement.{statement}

@@ -3,7 +3,7 @@ use mathlib.Core.Path.{◌∙◌}
 use native.Mathlib.Omega.{arith}
 use borrow.Author.Rules.{rules}
 use Rattle.report_bytes.specs.BytesStored.{members_within}
-use Rattle.text.specs.StoredText.{stored_length}
+use Rattle.start_classes.specs.StoredText.{stored_length}
 use Rattle.separations.specs.ReportClasses.{rounds_number_ready}
 use Rattle.set_grouping.specs.GroupingMadeLaws.{grouping_ready, grouping_length_lem, grouping_outside, grouping_members, grouping_starts, grouping_refused, grouping_given}
 use Rattle.set_grouping.proofs.group_set.Statement.{statement}

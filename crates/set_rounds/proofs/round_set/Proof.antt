@@ -2,7 +2,7 @@
 -- answer, and reads the verdict from them.
 use native.Mathlib.Omega.{arith}
 use borrow.Author.Rules.{rules}
-use Rattle.text.specs.StoredText.{stored_length}
+use Rattle.start_classes.specs.StoredText.{stored_length}
 use Rattle.separations.specs.ReportClasses.{rounds_number_ready}
 use Rattle.two_starts.specs.TwoStarts.{starts_ready, rounds_ready}
 use Rattle.set_rounds.specs.RoundMadeLaws.{round_outside, round_members, round_start, round_refused, round_given}

@@ -3,8 +3,8 @@ use mathlib.Core.Logic.{⊎_elim}
 use mathlib.Core.Bool.{◌||◌}
 use lib.Dec.{ltb}
 use borrow.Author.Tests.{lt-ltb, le-ltb}
-use Rattle.list_laws.specs.TestLaws.{or_left, or_right, or_fails}
-use Rattle.sheet_reading.specs.Reading.{count_at}
+use Rattle.sheet_laws.specs.TestLaws.{or_left, or_right, or_fails}
+use Rattle.sheet_laws.specs.Reading.{count_at}
 use Rattle.sheet_types.specs.SectionLaws.{same_then, wrong_then, right_then}
 use borrow.Author.Rules.{rules}
 use Rattle.sheet_fields.proofs.count_at.Statement.{statement}

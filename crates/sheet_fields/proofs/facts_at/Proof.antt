@@ -1,6 +1,6 @@
 -- The count is handed on to the names.
-use Rattle.sheets.specs.SheetLimits.{max_facts}
-use Rattle.sheet_reading.specs.Reading.{facts_at}
+use Rattle.sheet_laws.specs.SheetLimits.{max_facts}
+use Rattle.sheet_laws.specs.Reading.{facts_at}
 use Rattle.sheet_types.specs.SectionLaws.{answer_got, same_then, got_then}
 use Rattle.sheet_laws.specs.FieldLaws.{count_gets}
 use mathlib.Core.Path.{sym, ◌∙◌}

@@ -2,8 +2,8 @@
 use lib.Dec.{ltb}
 use Rattle.sheet_types.specs.SectionLaws.{same_then, wrong_then, right_then}
 use borrow.Author.Tests.{lt-ltb, le-ltb}
-use Rattle.sheet_reading.specs.Reading.{kind_at}
-use Rattle.sheets.specs.SheetLimits.{max_kind}
+use Rattle.sheet_laws.specs.Reading.{kind_at}
+use Rattle.sheet_laws.specs.SheetLimits.{max_kind}
 use borrow.Author.Rules.{rules}
 use Rattle.sheet_fields.proofs.kind_at.Statement.{statement}
 use Rattle.sheet_fields.proofs.kind_at.Tie as tie

@@ -1,8 +1,8 @@
 -- The name is all there, or refusal 1 is given.
 use lib.ListN.{length}
 use borrow.Author.Tests.{lt-ltb, le-ltb}
-use Rattle.sheets.specs.SheetLimits.{name_length}
-use Rattle.sheet_reading.specs.Reading.{name_at}
+use Rattle.sheet_laws.specs.SheetLimits.{name_length}
+use Rattle.sheet_laws.specs.Reading.{name_at}
 use native.Mathlib.Omega.{arith}
 use Prim.Native.Nat.{◌+◌, ◌≤◌, ◌<◌}
 use borrow.Author.Rules.{rules}

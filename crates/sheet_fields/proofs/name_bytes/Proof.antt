@@ -2,8 +2,8 @@
 use lib.ListN.{get_or}
 use mathlib.Core.Bool.{true, false}
 use borrow.Author.Tests.{not-true, not-false}
-use Rattle.sheets.specs.SheetLimits.{name_length}
-use Rattle.sheet_reading.specs.Reading.{name_bytes, printable}
+use Rattle.sheet_laws.specs.SheetLimits.{name_length}
+use Rattle.sheet_laws.specs.Reading.{name_bytes, printable}
 use Rattle.sheet_laws.specs.FieldLaws.{name_end, name_wrong, name_next}
 use borrow.Author.Rules.{rules}
 use native.Mathlib.Omega.{arith}

@@ -1,6 +1,6 @@
 -- After i names what is left to read gives what the whole gives.
 use lib.ListN.{length}
-use Rattle.sheet_reading.specs.Reading.{names_from}
+use Rattle.sheet_laws.specs.Reading.{names_from}
 use Rattle.sheet_types.specs.HeldSheet.{answer}
 use Rattle.sheet_types.specs.SectionLaws.{answer_got, answer_refused}
 use Rattle.sheet_laws.specs.FieldLaws.{name_gets, names_none, names_refused, names_next}

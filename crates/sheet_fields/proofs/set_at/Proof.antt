@@ -2,7 +2,7 @@
 use Rattle.sheet_fields.specs.AbsentFacts.{shifted_none, shifted_some}
 use lib.Dec.{leb}
 use Rattle.sheet_types.specs.SectionLaws.{same_then, wrong_then, right_then}
-use Rattle.sheet_reading.specs.Reading.{set_at}
+use Rattle.sheet_laws.specs.Reading.{set_at}
 use Prim.Native.Nat.{◌^◌}
 use borrow.Author.Rules.{rules}
 use Rattle.sheet_fields.proofs.set_at.Statement.{statement}

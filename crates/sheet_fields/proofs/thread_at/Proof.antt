@@ -2,7 +2,7 @@
 use lib.Dec.{leb}
 use Rattle.sheet_types.specs.SectionLaws.{same_then, wrong_then, right_then}
 use borrow.Author.Tests.{le-leb, lt-leb}
-use Rattle.sheet_reading.specs.Reading.{thread_at}
+use Rattle.sheet_laws.specs.Reading.{thread_at}
 use borrow.Author.Rules.{rules}
 use Rattle.sheet_fields.proofs.thread_at.Statement.{statement}
 use Rattle.sheet_fields.proofs.thread_at.Tie as tie

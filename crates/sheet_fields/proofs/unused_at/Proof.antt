@@ -1,9 +1,9 @@
 -- Two bytes are handed on where they are 0.
 use mathlib.Core.Bool.{not}
 use lib.Dec.{eqb}
-use Rattle.list_laws.specs.TestLaws.{not_passes, not_fails}
+use Rattle.sheet_laws.specs.TestLaws.{not_passes, not_fails}
 use Rattle.sheet_types.specs.SectionLaws.{same_then, wrong_then, right_then}
-use borrow.Author.Tests.{eq_eqb, ne_eqb}
+use borrow.Author.Tests.{eq-eqb, ne_eqb}
 use Rattle.sheet_laws.specs.NodeFields.{unused_at}
 use borrow.Author.Rules.{rules}
 use Rattle.sheet_fields.proofs.unused_at.Statement.{statement}
@@ -28,7 +28,7 @@ returns-2 c = wrong_then c.before.before.before.before.word_at.ensures (λ x. no
 
 returns-3 : tie.Need-returns-3
 unfolding unused_at
-returns-3 c = right_then c.before.before.before.before.word_at.ensures (λ x. not (eqb x 0)) 10 c.before.before.before.before.before.before.args.at c.before.before.r.given.1 (not_fails (eq_eqb _ _ c.if1.false))
+returns-3 c = right_then c.before.before.before.before.word_at.ensures (λ x. not (eqb x 0)) 10 c.before.before.before.before.before.before.args.at c.before.before.r.given.1 (not_fails (eq-eqb _ _ c.if1.false))
 
 pub unused-at-spec : {M : Type 1} → statement M
 unused-at-spec =

@@ -1,7 +1,7 @@
 -- `read_choice` hands up the sheet's refusal, and refuses a start that is not on the sheet, the left first.
 use mathlib.Core.Path.{refl}
-use Rattle.sheet_reading.specs.Reading.{read_sheet, read_choice}
-use Rattle.sheet_laws.specs.ReadingLaws.{choice_no_sheet}
+use Rattle.sheet_types.specs.Reading.{read_sheet, read_choice}
+use Rattle.sheet_fields.specs.ReadingLaws.{choice_no_sheet}
 use Rattle.sheet_types.specs.HeldSheet.{sheet_of}
 use Rattle.sheet_types.specs.SectionLaws.{with_refused}
 use Rattle.sheet_reader.specs.SheetFound.{found_no_left, found_no_right, found_chosen, refusal_up, sheet_refused}

@@ -2,19 +2,19 @@
 use mathlib.Core.Path.{◌≡◌, refl, sym, subst}
 use mathlib.Core.List.{List}
 use Prim.Native.Nat.{ℕ, ◌≤◌}
-use Rattle.list_laws.specs.Tabulate.{tabulate_length}
-use Rattle.sheets.specs.SheetLimits.{max_facts, max_rules}
-use Rattle.sheets.specs.Sheet.{Node}
-use Rattle.sheet_reading.specs.Reading.{got, facts_at, rules_at, nodes_at, starts_at, read_sheet}
-use Rattle.set_closure.specs.RuleTable.{rules_in}
+use Rattle.sheet_types.specs.Tabulate.{tabulate_length}
+use Rattle.sheet_types.specs.SheetLimits.{max_facts, max_rules}
+use Rattle.sheet_types.specs.Sheet.{Node}
+use Rattle.sheet_types.specs.Reading.{got, facts_at, rules_at, nodes_at, starts_at, read_sheet}
+use Rattle.sheet_types.specs.RuleTable.{rules_in}
 use Rattle.sheet_types.specs.HeldSheet.{node_in, nodes_in, starts_in}
 use Rattle.sheet_types.specs.NodeTable.{nodes_of, opened_of}
 use Rattle.sheet_types.specs.SectionLaws.{answer_got, answer_refused, with_got, with_refused, same_value, refused_never}
-use Rattle.node_opening.specs.OpenedNodes.{Few}
-use Rattle.movable_nodes.specs.NodeTables.{NodeTable}
-use Rattle.sheet_laws.specs.FieldLaws.{facts_gets}
-use Rattle.sheet_laws.specs.SectionLaws.{rules_gets}
-use Rattle.sheet_laws.specs.ReadingLaws.{no_facts, no_rules, no_nodes_lem, no_starts_lem, more_bytes, all_read}
+use Rattle.start_reader.specs.OpenedNodes.{Few}
+use Rattle.node_reader.specs.NodeTables.{NodeTable}
+use Rattle.sheet_fields.specs.FieldLaws.{facts_gets}
+use Rattle.sheet_fields.specs.SectionLaws.{rules_gets}
+use Rattle.sheet_fields.specs.ReadingLaws.{no_facts, no_rules, no_nodes_lem, no_starts_lem, more_bytes, all_read}
 use Rattle.start_reader.specs.StartFound.{TableOf}
 use Rattle.sheet_reader.specs.SheetFound.{sheet_refused, count_few}
 use borrow.Author.Rules.{rules}

@@ -5,12 +5,12 @@ use Prim.Native.Nat.{ℕ, ◌-◌, ◌≤◌, ◌<◌}
 use native.Mathlib.Omega.{arith}
 use lib.ListN.{get_or}
 use borrow.Author.Rules.{rules}
-use Rattle.list_laws.specs.ListPlaces.{get_d_any}
-use Rattle.sheets.specs.SheetBytes.{word_bytes}
+use Rattle.packing.specs.ListPlaces.{get_d_any}
+use Rattle.packing.specs.SheetBytes.{word_bytes}
 use Rattle.sheet_types.specs.declared.Configuration.{Configuration}
 use Rattle.sheet_types.specs.HeldSheet.{configuration, no_configuration}
-use Rattle.text.specs.Slices.{Stored}
-use Rattle.text.specs.StoredText.{stored_length}
+use Rattle.report_records.specs.Slices.{Stored}
+use Rattle.report_records.specs.StoredText.{stored_length}
 use Rattle.report_bytes.specs.BytesStored.{joined, stored_none, stored_next}
 use Rattle.start_classes.specs.StartClasses.{class_held, start_bytes_at}
 use Rattle.start_classes.specs.StartClassLaws.{start_held, starts_length}

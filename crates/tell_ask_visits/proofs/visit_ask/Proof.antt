@@ -8,8 +8,8 @@ use mathlib.Core.List.{List, ◌++◌}
 use Prim.Native.Nat.{ℕ, ◌≤◌}
 use lib.ListN.{length}
 use Rattle.threads_beside.specs.ThreadsBeside.{node_beside}
-use Rattle.lists.specs.Lists.{sort_up}
-use Rattle.sheets.specs.Sheet.{Node, opened}
+use Rattle.move_entry.specs.Lists.{sort_up}
+use Rattle.sheet_types.specs.Sheet.{Node, opened}
 use Rattle.sheet_types.specs.NodeTable.{opened_of}
 use Rattle.sheet_types.specs.HeldSheet.{opened_in}
 use Rattle.walk_state.specs.NotedInWalk.{NotedAllAs, all_on, all_over}

@@ -9,7 +9,7 @@ use Rattle.sheet_types.specs.HeldSheet.{configuration}
 use Rattle.collected_moves.specs.CollectedMoves.{EnteredAs}
 use Rattle.third_rule.specs.ThirdRuleLaws.{id_in_lem, not_inside, has_label, sum_in_table, sum_added}
 use Rattle.third_rule.proofs.add_to.Statement.{statement}
-use Rattle.sheets.specs.Sheet as spec
+use Rattle.sheet_types.specs.Sheet as spec
 use Rattle.third_rule.proofs.add_to.Tie as tie
 
 -- ---- the stages of the function, each from a later one

@@ -3,14 +3,14 @@ use mathlib.Core.Path.{ap₂, sym, ap, ◌∙◌}
 use mathlib.Core.Bool.{Bool, not, ◌||◌}
 use Prim.Native.Nat.{ℕ, ◌-◌}
 use lib.Dec.{eqb}
-use borrow.Author.Tests.{eq_eqb, ne_eqb}
+use borrow.Author.Tests.{eq-eqb, ne_eqb}
 use borrow.Author.Rules.{rules}
 use Rattle.third_rule.specs.ThirdRule.{label_at}
 use Rattle.third_rule.proofs.first_with_label.Statement.{statement}
 use Rattle.third_rule.proofs.first_with_label.Tie as tie
 
 returns : tie.Need-returns
-returns c = simp (eq_eqb _ _ c.if1.true)
+returns c = simp (eq-eqb _ _ c.if1.true)
 
 sub-label-at : tie.Need-overflow-sub-label-at
 sub-label-at c = search rules

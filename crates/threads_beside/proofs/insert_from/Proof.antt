@@ -4,8 +4,8 @@ use borrow.Author.Rules.{rules}
 use native.Mathlib.Omega.{arith}
 use Prim.Native.Nat.{◌+◌, ◌-◌, ◌≤◌}
 use mathlib.Core.Path.{◌≡◌}
-use Rattle.lists.specs.Lists.{NotFalling}
-use Rattle.list_laws.specs.SortingLaws.{insert_all, inserted_next}
+use Rattle.packing.specs.Lists.{NotFalling}
+use Rattle.packing.specs.SortingLaws.{insert_all, inserted_next}
 use Rattle.node_opening.specs.CarriedInsertion.{inserted_first}
 use Rattle.threads_beside.proofs.insert_from.Statement.{statement}
 use Rattle.threads_beside.proofs.insert_from.Tie as tie

@@ -5,7 +5,7 @@ use Prim.Native.Nat.{ℕ, ◌*◌}
 use native.Mathlib.Omega.{arith}
 use lib.ListN.{length, get_or, take, drop, length-drop}
 use borrow.Author.Rules.{rules}
-use Rattle.list_laws.specs.SortingLaws.{insert_all}
+use Rattle.packing.specs.SortingLaws.{insert_all}
 use Rattle.sheet_types.specs.NodeTable.{opened_of, threads_at}
 use Rattle.sheet_types.specs.NodeTableLaws.{threads_from_lem}
 use Rattle.threads_beside.specs.ThreadsBesideLaws.{beside_too_many, beside_joined}

@@ -2,7 +2,7 @@
 use Prim.Native.Nat.{◌-◌}
 use mathlib.Core.Path.{refl}
 use borrow.Author.Rules.{rules}
-use borrow.Author.Tests.{eq_eqb, ne_eqb}
+use borrow.Author.Tests.{eq-eqb, ne_eqb}
 use Rattle.trail_search.proofs.next_pair.Statement.{statement}
 use Rattle.trail_search.proofs.next_pair.Tie as tie
 
@@ -10,7 +10,7 @@ cast_t : tie.Need-overflow-cast-t
 cast_t c = search rules
 
 returns : tie.Need-returns
-returns c = simp (eq_eqb _ _ c.if1.true) (refl, refl)
+returns c = simp (eq-eqb _ _ c.if1.true) (refl, refl)
 
 returns-2 : tie.Need-returns-2
 returns-2 c = simp (ne_eqb _ _ c.if1.false) (refl, refl)

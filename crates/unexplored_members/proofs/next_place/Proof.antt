@@ -6,7 +6,7 @@ use native.Mathlib.Omega.{arith}
 use borrow.Author.Rules.{rules}
 use borrow.Author.Tests.{eqb-true, eqb-false}
 use lib.ListN.{get_or}
-use Rattle.list_laws.specs.PlacesPassed.{HoldsFrom, holds_next}
+use Rattle.collected_moves.specs.PlacesPassed.{HoldsFrom, holds_next}
 use Rattle.member_table.specs.MemberTable.{id_in}
 use Rattle.collected_moves.specs.CollectedMoves.{member_part}
 use Rattle.unexplored_members.specs.UnexploredMembers.{IsExplored}

@@ -5,20 +5,20 @@ use lib.Seq.{set_out}
 use Rattle.level_tables.proofs.numbers.put.Statement.{statement}
 use Rattle.level_tables.proofs.numbers.put.Tie as tie
 
-mul-w : tie.Need-overflow-mul-w
+mul-w : tie.Need-offset_bounds-w-i
 mul-w c = search rules
 
-slice-write-w : tie.Need-slice-write-w
+slice-write-w : tie.Need-bounds-w-i
 slice-write-w c = search rules
 
-same_length : tie.Need-same-length
+same_length : tie.Need-shape_of-w
 same_length c = search rules
 
-returns : tie.Need-returns
+returns : tie.Need-returns-then-i-w
 returns c = search rules
 
-returns-2 : tie.Need-returns-2
-returns-2 c = sym (set_out c.before.args.w.now c.before.args.i c.before.args.x c.if1.false)
+returns-2 : tie.Need-returns-else-i-w
+returns-2 c = sym (set_out c.args.w.now c.args.i c.args.x c.if-i-w.false)
 
 pub put_spec : {M : Type 1} → statement M
 put_spec = tie.close (tie.spec mul-w slice-write-w same_length returns returns-2)

@@ -5,23 +5,23 @@ use Rattle.level_tables.specs.PairLaws.{found_present}
 use Rattle.level_tables.proofs.pairs.find.Statement.{statement}
 use Rattle.level_tables.proofs.pairs.find.Tie as tie
 
-slot-of-requires : tie.Need-slot-of-requires
+slot-of-requires : tie.Need-slot_of-slot-requires
 slot-of-requires c κs = search rules
 
-returns : tie.Need-returns
+returns : tie.Need-returns-then-slot
 returns c = absent
 
-number-at-requires : tie.Need-number-at-requires
+number-at-requires : tie.Need-number_at-held-requires
 number-at-requires c κs = search rules
 
-returns-2 : tie.Need-returns-2
+returns-2 : tie.Need-returns-then-held-eq0
 returns-2 c = absent
 
-sub-result : tie.Need-overflow-sub-result
+sub-result : tie.Need-overflow_sub-result
 sub-result c = search rules
 
-returns-3 : tie.Need-returns-3
-returns-3 c = found_present c.before.before.before.slot_of.ensures c.before.before.if1.false c.before.number_at_lem.ensures c.if2.false
+returns-3 : tie.Need-returns
+returns-3 c = found_present c.slot_of-slot.ensures c.if-slot.false c.number_at-held.ensures c.if-held-eq0.false
 
 pub find_spec : {M : Type 1} → statement M
 find_spec =
