@@ -15,7 +15,7 @@ import sys
 
 ROOT = os.getcwd()
 ID = r"[^\s(){}.;,@\"«»:=λ]+"
-START = ("args", "requires", "pre", "ranges", "entry", "type_inv", "utf8")
+START = ("args", "requires", "pre", "well_formed", "lifetimes", "ranges", "entry", "type_inv", "utf8")
 
 
 def norm(n):
