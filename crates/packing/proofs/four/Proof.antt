@@ -5,54 +5,54 @@ use borrow.Author.Rules.{rules}
 use Rattle.packing.proofs.four.Statement.{statement}
 use Rattle.packing.proofs.four.Tie as tie
 
-byte-in-requires : tie.Need-byte-in-requires
+byte-in-requires : tie.Need-byte_in-a-requires
 byte-in-requires c κs = search rules
 
-add-byte-in : tie.Need-overflow-add-byte-in
+add-byte-in : tie.Need-overflow_add-from
 add-byte-in c = search rules
 
-byte-in-requires-2 : tie.Need-byte-in-requires-2
+byte-in-requires-2 : tie.Need-byte_in-b-requires
 byte-in-requires-2 c κs = search rules
 
-add-byte-in-2 : tie.Need-overflow-add-byte-in-2
+add-byte-in-2 : tie.Need-overflow_add-from-2
 add-byte-in-2 c = search rules
 
-byte-in-requires-3 : tie.Need-byte-in-requires-3
+byte-in-requires-3 : tie.Need-byte_in-c-requires
 byte-in-requires-3 c κs = search rules
 
-add-byte-in-3 : tie.Need-overflow-add-byte-in-3
+add-byte-in-3 : tie.Need-overflow_add-from-3
 add-byte-in-3 c = search rules
 
-byte-in-requires-4 : tie.Need-byte-in-requires-4
+byte-in-requires-4 : tie.Need-byte_in-d-requires
 byte-in-requires-4 c κs = search rules
 
-mul-result : tie.Need-overflow-mul-result
+mul-result : tie.Need-overflow_mul-result
 mul-result c = search rules
 
-mul-result-2 : tie.Need-overflow-mul-result-2
+mul-result-2 : tie.Need-overflow_mul-result-2
 mul-result-2 c = search rules
 
-add-result : tie.Need-overflow-add-result
+add-result : tie.Need-overflow_add-result
 add-result c = search rules
 
-mul-result-3 : tie.Need-overflow-mul-result-3
+mul-result-3 : tie.Need-overflow_mul-result-3
 mul-result-3 c = search rules
 
-add-result-2 : tie.Need-overflow-add-result-2
+add-result-2 : tie.Need-overflow_add-result-2
 add-result-2 c = search rules
 
-add-result-3 : tie.Need-overflow-add-result-3
+add-result-3 : tie.Need-overflow_add-result-3
 add-result-3 c = search rules
 
 returns : tie.Need-returns
 returns c =
-    let g = c.before.before.before.before.before.args in
-    four_sum (take g.count g.threads.now) g.from c.before.before.before.byte-in.result c.before.before.byte-in2.result
-    c.before.byte-in3.result c.byte-in4.result c.before.before.before.byte-in.ensures.0 c.before.before.byte-in2.ensures.0
-    c.before.byte-in3.ensures.0 c.byte-in4.ensures.0
+    let g = c.args in
+    four_sum (take g.count g.threads.now) g.from c.byte_in-a.result c.byte_in-b.result
+    c.byte_in-c.result c.byte_in-d.result c.byte_in-a.ensures.0 c.byte_in-b.ensures.0
+    c.byte_in-c.ensures.0 c.byte_in-d.ensures.0
 
-pub four-spec : {M : Type 1} → statement M
-four-spec =
+pub four_spec : {M : Type 1} → statement M
+four_spec =
     tie.close
     (tie.spec
     byte-in-requires

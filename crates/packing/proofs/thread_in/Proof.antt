@@ -9,22 +9,22 @@ use borrow.Author.Rules.{rules}
 use Rattle.packing.proofs.thread_in.Statement.{statement}
 use Rattle.packing.proofs.thread_in.Tie as tie
 
-byte-of-requires : tie.Need-byte-of-requires
+byte-of-requires : tie.Need-byte_of-requires
 byte-of-requires c κs = search rules
 
-byte-of-requires-2 : tie.Need-byte-of-requires-2
+byte-of-requires-2 : tie.Need-byte_of-requires-else-j-lt4
 byte-of-requires-2 c κs = search rules
 
-returns : tie.Need-returns
+returns : tie.Need-returns-then-j-lt4
 returns c =
-    let g = c.before.before.args in
+    let g = c.args in
     c.byte_of.ensures ∙ byte_first g.b g.c g.j (omega arith)
 
-returns-2 : tie.Need-returns-2
+returns-2 : tie.Need-returns-else-j-lt4
 returns-2 c =
-    let g = c.before.before.args in
+    let g = c.args in
     let e : 4 + (g.j - 4) ≡ g.j = omega arith in
-    c.byte-of2.ensures ∙ byte_second g.b g.c (g.j - 4) (omega arith) ∙ ap (λ (k : ℕ). get_or (eight_bytes g.b g.c) k 0) e
+    c.byte_of-else-j-lt4.ensures ∙ byte_second g.b g.c (g.j - 4) (omega arith) ∙ ap (λ (k : ℕ). get_or (eight_bytes g.b g.c) k 0) e
 
-pub thread-in-spec : {M : Type 1} → statement M
-thread-in-spec = tie.close (tie.spec byte-of-requires byte-of-requires-2 returns returns-2)
+pub thread_in_spec : {M : Type 1} → statement M
+thread_in_spec = tie.close (tie.spec byte-of-requires byte-of-requires-2 returns returns-2)
