@@ -6,17 +6,17 @@ use lib.ListN.{get_or-eq_default}
 use Rattle.report_fields.proofs.byte_in.Statement.{statement}
 use Rattle.report_fields.proofs.byte_in.Tie as tie
 
-shared-slice-read-wide : tie.Need-shared-slice-read-wide
+shared-slice-read-wide : tie.Need-bounds-s-at
 shared-slice-read-wide c = search rules
 
 wide-requires : tie.Need-wide-requires
 wide-requires c κs = search rules
 
-returns : tie.Need-returns
+returns : tie.Need-returns-then-at-s
 returns c = search rules
 
-returns-2 : tie.Need-returns-2
-returns-2 c = (sym (get_or-eq_default c.before.before.args.s.now 0 (omega arith)), omega arith)
+returns-2 : tie.Need-returns-else-at-s
+returns-2 c = (sym (get_or-eq_default c.args.s.now 0 (omega arith)), omega arith)
 
-pub byte-in-spec : {M : Type 1} → statement M
-byte-in-spec = tie.close (tie.spec shared-slice-read-wide wide-requires returns returns-2)
+pub byte_in_spec : {M : Type 1} → statement M
+byte_in_spec = tie.close (tie.spec shared-slice-read-wide wide-requires returns returns-2)

@@ -12,61 +12,54 @@ use Rattle.report_fields.specs.TextLaws.{more_none, more_one, stored_none, store
 use Rattle.report_fields.proofs.put_more_threads.Statement.{statement}
 use Rattle.report_fields.proofs.put_more_threads.Tie as tie
 
-abbrev invariant-loop : tie.invariant-loop
+abbrev invariant-loop : tie.invariant-loop-i
 invariant-loop s from n out₀ at next₀ i₀ out next i = (i ≤ n) × (next ≤ at + 4 * i) × Stored out₀ at (more_threads (threads_in s from i)) out next
 
-abbrev decreases-loop : tie.decreases-loop
+abbrev decreases-loop : tie.decreases-loop-i
 decreases-loop s from n out₀ at next₀ i₀ out next i = n - i
 
 -- ---- the stages of the function, each from a later one
-abbrev start-of-at-loop : tie.At-loop invariant-loop decreases-loop → tie.Start invariant-loop decreases-loop
-start-of-at-loop s = s.before.before.before
-
-abbrev at-loop-of-put-next-thread : tie.After-put-next-thread invariant-loop decreases-loop → tie.At-loop invariant-loop decreases-loop
-at-loop-of-put-next-thread s = s.before.before.before
-
 -- ---- what is left to show
-loop-holds : tie.Need-loop-init invariant-loop decreases-loop
+loop-holds : tie.Need-loop-i-init invariant-loop decreases-loop
 loop-holds c =
-    let args = c.before.before.args in
+    let args = c.args in
     let f : ℕ → ℕ = λ j. get_or args.s.now (args.from + j) 0 in
     (search rules, search rules, stored_as (more_none f) (stored_none args.out.now args.at))
 
-add-put-next-thread : tie.Need-overflow-add-put-next-thread invariant-loop decreases-loop
+add-put-next-thread : tie.Need-overflow_add-from invariant-loop decreases-loop
 add-put-next-thread c = search rules
 
-put-next-thread-requires : tie.Need-put-next-thread-requires invariant-loop decreases-loop
-put-next-thread-requires c κs = omega (arith, stored_length c.before.before.loop.invariant.2)
+put-next-thread-requires : tie.Need-put_next_thread-next-requires invariant-loop decreases-loop
+put-next-thread-requires c κs = omega (arith, stored_length c.loop-i.invariant.2)
 
-add-i : tie.Need-overflow-add-i invariant-loop decreases-loop
+add-i : tie.Need-overflow_add-i invariant-loop decreases-loop
 add-i c = search rules
 
-loop-less : tie.Need-loop-smaller invariant-loop decreases-loop
+loop-less : tie.Need-loop-i-smaller invariant-loop decreases-loop
 loop-less c = search rules
 
-loop-again : tie.Need-loop-preserved invariant-loop decreases-loop
+loop-again : tie.Need-loop-i-preserved invariant-loop decreases-loop
 loop-again c =
-    let at-put-next-thread = c.before.before in
-    let args = (start-of-at-loop (at-loop-of-put-next-thread at-put-next-thread)).args in
-    let at-loop = (at-loop-of-put-next-thread at-put-next-thread).loop in
-    let e = at-put-next-thread.put-next-thread.ensures in (
+    let args = c.args in
+    let at-loop = c.loop-i in
+    let e = c.put_next_thread-next.ensures in (
       search rules,
       omega (arith, e.1),
-      stored_as (more_one (λ j. get_or args.s.now (args.from + j) 0) at-loop.i) (stored_then at-loop.inv.2 e.0),
+      stored_as (more_one (λ j. get_or args.s.now (args.from + j) 0) at-loop.i) (stored_then at-loop.invariant.2 e.0),
     )
 
-same_length : tie.Need-same-length invariant-loop decreases-loop
-same_length c = stored_length c.before.loop.invariant.2
+same_length : tie.Need-shape_of-out invariant-loop decreases-loop
+same_length c = stored_length c.loop-i.invariant.2
 
 returns : tie.Need-returns invariant-loop decreases-loop
 returns c =
-    let args = c.before.before.before.before.args in
-    let inv = c.before.loop.invariant in
-    let last : c.before.loop.i ≡ args.n = omega arith in
+    let args = c.args in
+    let inv = c.loop-i.invariant in
+    let last : c.loop-i.i ≡ args.n = omega arith in
     (stored_as (ap (λ (k : ℕ). more_threads (threads_in args.s.now args.from k)) last) inv.2, omega arith)
 
-pub put-more-threads-spec : {M : Type 1} → statement M
-put-more-threads-spec =
+pub put_more_threads_spec : {M : Type 1} → statement M
+put_more_threads_spec =
     tie.close
     (tie.spec
     invariant-loop

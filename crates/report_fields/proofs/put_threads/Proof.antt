@@ -12,53 +12,52 @@ use Rattle.report_fields.specs.TextLaws.{threads_none, threads_some, byte_short,
 use Rattle.report_fields.proofs.put_threads.Statement.{statement}
 use Rattle.report_fields.proofs.put_threads.Tie as tie
 
-put-byte-requires : tie.Need-put-byte-requires
+put-byte-requires : tie.Need-put_byte-requires
 put-byte-requires c κs = search rules
 
-same_length : tie.Need-same-length
+same_length : tie.Need-shape_of-out-then-n-eq0
 same_length c = search rules
 
-returns : tie.Need-returns
+returns : tie.Need-returns-then-n-eq0
 returns c =
-    let args = c.before.before.before.before.before.before.before.args in
-    let e = c.before.before.put_byte.ensures in (
-      stored_as (threads_none args.s.now args.from args.n c.before.before.before.before.if1.true) e,
+    let args = c.args in
+    let e = c.put_byte.ensures in (
+      stored_as (threads_none args.s.now args.from args.n c.if-n-eq0.true) e,
       omega (arith, e.place),
     )
 
-byte-in-requires : tie.Need-byte-in-requires
+byte-in-requires : tie.Need-byte_in-requires
 byte-in-requires c κs = search rules
 
-put-number-requires : tie.Need-put-number-requires
+put-number-requires : tie.Need-put_number-next-requires
 put-number-requires c κs = search rules
 
-add-put-more-threads : tie.Need-overflow-add-put-more-threads
+add-put-more-threads : tie.Need-overflow_add-from
 add-put-more-threads c = search rules
 
-sub-put-more-threads : tie.Need-overflow-sub-put-more-threads
+sub-put-more-threads : tie.Need-overflow_sub-n
 sub-put-more-threads c = search rules
 
-put-more-threads-requires : tie.Need-put-more-threads-requires
+put-more-threads-requires : tie.Need-put_more_threads-requires
 put-more-threads-requires c κs = search rules
 
-same-length-2 : tie.Need-same-length-2
+same-length-2 : tie.Need-shape_of-out
 same-length-2 c = search rules
 
-returns-2 : tie.Need-returns-2
+returns-2 : tie.Need-returns
 returns-2 c =
-    let first = c.before.before.before.before.before.before in
-    let byte = first.before.byte-in in
-    let args = first.before.before.before.before.before.before.args in
-    let e = c.before.before.put-more-threads.ensures in
+    let byte = c.byte_in in
+    let args = c.args in
+    let e = c.put_more_threads.ensures in
     let text =
     ap (λ (k : ℕ). decimal k ++ more_threads (threads_in args.s.now (args.from + 1) (args.n - 1))) byte.ensures.0
     ∙ threads_some args.s.now args.from args.n (omega arith) in (
-      stored_as text (stored_then first.put-number.ensures.0 e.0),
-      omega (arith, e.1, first.put-number.ensures.0.place, byte_short byte.result byte.ensures.1),
+      stored_as text (stored_then c.put_number-next.ensures.0 e.0),
+      omega (arith, e.1, c.put_number-next.ensures.0.place, byte_short byte.result byte.ensures.1),
     )
 
-pub put-threads-spec : {M : Type 1} → statement M
-put-threads-spec =
+pub put_threads_spec : {M : Type 1} → statement M
+put_threads_spec =
     tie.close
     (tie.spec
     put-byte-requires

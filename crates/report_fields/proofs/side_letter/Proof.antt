@@ -3,11 +3,11 @@ use borrow.Author.Tests.{eq-eqb, ne_eqb}
 use Rattle.report_fields.proofs.side_letter.Statement.{statement}
 use Rattle.report_fields.proofs.side_letter.Tie as tie
 
-returns : tie.Need-returns
-returns c = simp (eq-eqb _ _ c.if1.true)
+returns : tie.Need-returns-then-side-eq0
+returns c = simp (eq-eqb _ _ c.if-side-eq0.true)
 
-returns-2 : tie.Need-returns-2
-returns-2 c = simp (ne_eqb _ _ c.if1.false)
+returns-2 : tie.Need-returns-else-side-eq0
+returns-2 c = simp (ne_eqb _ _ c.if-side-eq0.false)
 
-pub side-letter-spec : {M : Type 1} → statement M
-side-letter-spec = tie.close (tie.spec returns returns-2)
+pub side_letter_spec : {M : Type 1} → statement M
+side_letter_spec = tie.close (tie.spec returns returns-2)
