@@ -2,14 +2,14 @@
 use Rattle.verdicts.proofs.verdict_in.Statement.{statement}
 use Rattle.verdicts.proofs.verdict_in.Tie as tie
 
-returns : tie.Need-returns
-returns c = simp (c.before.if1.true, c.if2.true)
+returns : tie.Need-returns-then-last
+returns c = simp (c.if-together.true, c.if-last.true)
 
-returns-2 : tie.Need-returns-2
-returns-2 c = simp (c.before.if1.true, c.if2.false)
+returns-2 : tie.Need-returns-then-together
+returns-2 c = simp (c.if-together.true, c.if-last.false)
 
-returns-3 : tie.Need-returns-3
-returns-3 c = simp c.if1.false
+returns-3 : tie.Need-returns
+returns-3 c = simp c.if-together.false
 
-pub verdict-in-spec : {M : Type 1} → statement M
-verdict-in-spec = tie.close (tie.spec returns returns-2 returns-3)
+pub verdict_in_spec : {M : Type 1} → statement M
+verdict_in_spec = tie.close (tie.spec returns returns-2 returns-3)

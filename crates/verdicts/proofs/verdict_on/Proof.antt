@@ -4,14 +4,14 @@ use borrow.Author.Tests.{eq-eqb, ne_eqb}
 use Rattle.verdicts.proofs.verdict_on.Statement.{statement}
 use Rattle.verdicts.proofs.verdict_on.Tie as tie
 
-sub-t7 : tie.Need-overflow-sub-t7
+sub-t7 : tie.Need-overflow_sub-result
 sub-t7 c = search rules
 
-returns : tie.Need-returns
-returns c = simp (eq-eqb _ _ c.if1.true)
+returns : tie.Need-returns-then-apart-last
+returns c = simp (eq-eqb _ _ c.if-apart-last.true)
 
-returns-2 : tie.Need-returns-2
-returns-2 c = simp (ne_eqb _ _ c.if1.false)
+returns-2 : tie.Need-returns
+returns-2 c = simp (ne_eqb _ _ c.if-apart-last.false)
 
-pub verdict-on-spec : {M : Type 1} → statement M
-verdict-on-spec = tie.close (tie.spec sub-t7 returns returns-2)
+pub verdict_on_spec : {M : Type 1} → statement M
+verdict_on_spec = tie.close (tie.spec sub-t7 returns returns-2)
