@@ -13,24 +13,18 @@ use Rattle.report_fields.specs.TextLaws.{stored_none, stored_as}
 use Rattle.report_text.proofs.member_lines.Statement.{statement}
 use Rattle.report_text.proofs.member_lines.Tie as tie
 
-abbrev invariant-loop : tie.invariant-loop
+abbrev invariant-loop : tie.invariant-loop-i
 invariant-loop s n out₀ at from₀ next₀ i₀ out from next i =
     (i ≤ n) × (from ≡ members_end s i) × (from ≤ 2 + 13 * i) × (next ≤ at + 64 * i) × Stored out₀ at (members_text s i) out next
 
-abbrev decreases-loop : tie.decreases-loop
+abbrev decreases-loop : tie.decreases-loop-i
 decreases-loop s n out₀ at from₀ next₀ i₀ out from next i = n - i
 
 -- ---- the stages of the function, each from a later one
-abbrev start-of-at-loop : tie.At-loop invariant-loop decreases-loop → tie.Start invariant-loop decreases-loop
-start-of-at-loop s = s.before.before.before
-
-abbrev at-loop-of-member-line : tie.After-member-line invariant-loop decreases-loop → tie.At-loop invariant-loop decreases-loop
-at-loop-of-member-line s = s.before.before.before
-
 -- ---- what is left to show
-loop-holds : tie.Need-loop-init invariant-loop decreases-loop
+loop-holds : tie.Need-loop-i-init invariant-loop decreases-loop
 loop-holds c =
-    let args = c.before.before.args in (
+    let args = c.args in (
       search rules,
       sym (place_none (member_end args.s.now) 2),
       search rules,
@@ -38,34 +32,33 @@ loop-holds c =
       stored_as (sym (lines_none (member_text args.s.now) (member_end args.s.now) 2)) (stored_none args.out.now args.at),
     )
 
-member-line-requires : tie.Need-member-line-requires invariant-loop decreases-loop
-member-line-requires c κs = omega (arith, stored_length c.before.before.loop.invariant.4)
+member-line-requires : tie.Need-member_line-next-requires invariant-loop decreases-loop
+member-line-requires c κs = omega (arith, stored_length c.loop-i.invariant.4)
 
-add-from : tie.Need-overflow-add-from invariant-loop decreases-loop
+add-from : tie.Need-overflow_add-from invariant-loop decreases-loop
 add-from c = search rules
 
-thread-count-requires : tie.Need-thread-count-requires invariant-loop decreases-loop
+thread-count-requires : tie.Need-thread_count-requires invariant-loop decreases-loop
 thread-count-requires c κs = search rules
 
-add-from-2 : tie.Need-overflow-add-from-2 invariant-loop decreases-loop
+add-from-2 : tie.Need-overflow_add-from-in-loop-i invariant-loop decreases-loop
 add-from-2 c = search rules
 
-add-i : tie.Need-overflow-add-i invariant-loop decreases-loop
+add-i : tie.Need-overflow_add-i invariant-loop decreases-loop
 add-i c = search rules
 
-loop-less : tie.Need-loop-smaller invariant-loop decreases-loop
+loop-less : tie.Need-loop-i-smaller invariant-loop decreases-loop
 loop-less c = search rules
 
-loop-again : tie.Need-loop-preserved invariant-loop decreases-loop
+loop-again : tie.Need-loop-i-preserved invariant-loop decreases-loop
 loop-again c =
-    let at-member-line = c.before.before.before in
-    let args = (start-of-at-loop (at-loop-of-member-line at-member-line)).args in
-    let at-loop = (at-loop-of-member-line at-member-line).loop in
-    let inv = at-loop.inv in
-    let e = at-member-line.member_line_lem.ensures in
+    let args = c.args in
+    let at-loop = c.loop-i in
+    let inv = at-loop.invariant in
+    let e = c.member_line-next.ensures in
     let s = args.s.now in
     let i = at-loop.i in
-    let n = c.thread-count.ensures in
+    let n = c.thread_count.ensures in
     let text = ap (λ (f : ℕ). members_text s i ++ member_text s i f) inv.1 ∙ sym (lines_next (member_text s) (member_end s) 2 i) in (
       search rules,
       ap₂ (λ (f : ℕ) (k : ℕ). f + 5 + k) inv.1 (n.0 ∙ ap (thread_count s) inv.1) ∙ sym (place_next (member_end s) 2 i),
@@ -74,14 +67,14 @@ loop-again c =
       stored_as text (stored_then inv.4 e.0),
     )
 
-same_length : tie.Need-same-length invariant-loop decreases-loop
-same_length c = stored_length c.before.loop.invariant.4
+same_length : tie.Need-shape_of-out invariant-loop decreases-loop
+same_length c = stored_length c.loop-i.invariant.4
 
 returns : tie.Need-returns invariant-loop decreases-loop
 returns c =
-    let args = c.before.before.before.before.args in
-    let inv = c.before.loop.invariant in
-    let last : c.before.loop.i ≡ args.n = omega arith in
+    let args = c.args in
+    let inv = c.loop-i.invariant in
+    let last : c.loop-i.i ≡ args.n = omega arith in
     record {
       text = stored_as (ap (members_text args.s.now) last) inv.4;
       short = omega arith;
@@ -89,8 +82,8 @@ returns c =
       near = omega arith;
     }
 
-pub member-lines-spec : {M : Type 1} → statement M
-member-lines-spec =
+pub member_lines_spec : {M : Type 1} → statement M
+member_lines_spec =
     tie.close
     (tie.spec
     invariant-loop

@@ -6,34 +6,26 @@ use Rattle.report_text.proofs.put_line.Statement.{statement}
 use Rattle.report_text.proofs.put_line.Tie as tie
 
 -- ---- the stages of the function, each from a later one
-abbrev put-text-of-put-field : tie.After-put-field → tie.After-put-text
-put-text-of-put-field s = s.before.before.before.before
-
-abbrev put-field-of-put-end : tie.After-put-end → tie.After-put-field
-put-field-of-put-end s = s.before.before.before.before
-
 -- ---- what is left to show
-put-text-requires : tie.Need-put-text-requires
+put-text-requires : tie.Need-put_text-a-requires
 put-text-requires c κs = search rules
 
-put-field-requires : tie.Need-put-field-requires
+put-field-requires : tie.Need-put_field-b-requires
 put-field-requires c κs = search rules
 
-put-end-requires : tie.Need-put-end-requires
+put-end-requires : tie.Need-put_end-requires
 put-end-requires c κs = search rules
 
-same_length : tie.Need-same-length
+same_length : tie.Need-shape_of-out
 same_length c = search rules
 
 returns : tie.Need-returns
 returns c =
-    let at-put-end = c.before.before in
-    let at-put-field = put-field-of-put-end at-put-end in
-    let end = at-put-end.put_end.ensures in
-    let number = at-put-field.put-field.ensures in
-    let word = (put-text-of-put-field at-put-field).put-text.ensures in
+    let end = c.put_end.ensures in
+    let number = c.put_field-b.ensures in
+    let word = c.put_text-a.ensures in
     record { text = stored_then word (stored_then number.0 end); short = omega (arith, end.place, number.1, word.place) }
 
-pub put-line-spec : {M : Type 1} → statement M
-put-line-spec =
+pub put_line_spec : {M : Type 1} → statement M
+put_line_spec =
     tie.close (tie.spec put-text-requires put-field-requires put-end-requires same_length returns)

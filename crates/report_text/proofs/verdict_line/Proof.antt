@@ -10,45 +10,35 @@ use borrow.Author.Rules.{rules}
 use Rattle.report_text.proofs.verdict_line.Statement.{statement}
 use Rattle.report_text.proofs.verdict_line.Tie as tie
 
-slice-aggregate-put-line : tie.Need-slice-aggregate-put-line
-slice-aggregate-put-line c = search rules
-
-put-line-requires : tie.Need-put-line-requires
+put-line-requires : tie.Need-put_line-requires
 put-line-requires c κs = search rules
 
-slice-aggregate-put-line-2 : tie.Need-slice-aggregate-put-line-2
-slice-aggregate-put-line-2 c = search rules
-
-put-line-requires-2 : tie.Need-put-line-requires-2
+put-line-requires-2 : tie.Need-put_line-requires-else-same
 put-line-requires-2 c κs = search rules
 
-same_length : tie.Need-same-length
+same_length : tie.Need-shape_of-out-then-same
 same_length c = search rules
 
-returns : tie.Need-returns
+returns : tie.Need-returns-then-same
 returns c =
-    let e = c.before.before.put-line.ensures in
-    let test = c.before.before.before.before.before in
-    let round = test.before.before.args.round in
-    (stored_as (ap (λ (b : Bool). line (word_of b) (round ∷ [])) (sym test.if1.true)) e.text, omega (arith, e.short))
+    let e = c.put_line.ensures in
+    let round = c.args.round in
+    (stored_as (ap (λ (b : Bool). line (word_of b) (round ∷ [])) (sym c.if-same.true)) e.text, omega (arith, e.short))
 
-same-length-2 : tie.Need-same-length-2
+same-length-2 : tie.Need-shape_of-out-else-same
 same-length-2 c = search rules
 
-returns-2 : tie.Need-returns-2
+returns-2 : tie.Need-returns-else-same
 returns-2 c =
-    let e = c.before.before.put-line2.ensures in
-    let test = c.before.before.before.before.before in
-    let round = test.before.before.args.round in
-    (stored_as (ap (λ (b : Bool). line (word_of b) (round ∷ [])) (sym test.if1.false)) e.text, omega (arith, e.short))
+    let e = c.put_line-else-same.ensures in
+    let round = c.args.round in
+    (stored_as (ap (λ (b : Bool). line (word_of b) (round ∷ [])) (sym c.if-same.false)) e.text, omega (arith, e.short))
 
-pub verdict-line-spec : {M : Type 1} → statement M
-verdict-line-spec =
+pub verdict_line_spec : {M : Type 1} → statement M
+verdict_line_spec =
     tie.close
     (tie.spec
-    slice-aggregate-put-line
     put-line-requires
-    slice-aggregate-put-line-2
     put-line-requires-2
     same_length
     returns
