@@ -43,13 +43,13 @@ refusal_numbers e = ap answer_numbers (sym e)
 
 -- what any call left, with the numbers of its answer, where those are the outcome's
 pub answered_handed : {A R : Type 0} {written : A → List ℕ} {returned : Outcome A → R} {numbered : Outcome A → List ℕ} (number_of_lem : R → ℕ)
-    (Numbers-of : R → List ℕ) {o : Outcome A} {v before w after : List ℕ} {r : R} {number : ℕ} {numbers : List ℕ}
-    → Answered written returned o v before w after r → number ≡ number_of_lem r → numbers ≡ Numbers-of r
-    → number_of_lem (returned o) ≡ outcome_number o → Numbers-of (returned o) ≡ numbered o → HandedBy written numbered o v before w after numbers number
-answered_handed number_of_lem Numbers-of c n ns is are =
+    (numbers_of : R → List ℕ) {o : Outcome A} {v before w after : List ℕ} {r : R} {number : ℕ} {numbers : List ℕ}
+    → Answered written returned o v before w after r → number ≡ number_of_lem r → numbers ≡ numbers_of r
+    → number_of_lem (returned o) ≡ outcome_number o → numbers_of (returned o) ≡ numbered o → HandedBy written numbered o v before w after numbers number
+answered_handed number_of_lem numbers_of c n ns is are =
     record {
       returns = n ∙ ap number_of_lem c.answers ∙ is;
-      result = ns ∙ ap Numbers-of c.answers ∙ are;
+      result = ns ∙ ap numbers_of c.answers ∙ are;
       bytes = c.bytes;
       works = c.works;
     }

@@ -103,8 +103,8 @@ module _ (w ws : List ℕ) (width n old : ℕ) (list : List ℕ) (k : ℕ) (awak
           inr (
             not_listed i (eqb-false (place_digit awake 0 i) 1 e),
             C.chosen_in_lem c b,
-            (λ x. f x.0 x.1 (ap (λ (z : ℕ). chosen_in w (class_in w z)) x.2 ∙ ap (chosen_in w) (C.Chosen-of c b) ∙ sym x.2)),
-            C.Chosen-of c b,
+            (λ x. f x.0 x.1 (ap (λ (z : ℕ). chosen_in w (class_in w z)) x.2 ∙ ap (chosen_in w) (C.chosen_of c b) ∙ sym x.2)),
+            C.chosen_of c b,
           )
 
   -- members at rest were chosen

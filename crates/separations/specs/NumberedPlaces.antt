@@ -234,7 +234,7 @@ module _ (v : List ℕ) (n classes : ℕ) (C : Classed v n classes) (F : FirstCh
           f = chosen_in v (class_in v i)
 
           of : class_in v f ≡ class_in v i
-          of = C.Chosen-of (class_in v i) (C.known i l)
+          of = C.chosen_of (class_in v i) (C.known i l)
 
           is : k ≡ class_in w f
           is = ap (number_in w) (own ∙ sym of) ∙ N.listed f h

@@ -37,7 +37,7 @@ module _ {z : ℕ} {In : ℕ → Type 0} {low high : Sheet} (R : RaisedBy z In l
       (moves low p)
       (λ k j.
       let w = R.moves_in p i k j in
-      ap₂ ◌&&◌ (R.Below-raised k.label m.label w.0 h)
+      ap₂ ◌&&◌ (R.below_raised k.label m.label w.0 h)
       (ap (share (map (raised_configuration z) set) cs (raised_configuration z m.target)) (R.add_raised m.label k.target h w.1)
       ∙ share_raised z set cs m.target (add low m.label k.target)))
     where

@@ -87,7 +87,7 @@ module _ {z : ℕ} {In : ℕ → Type 0} {low high : Sheet} (R : RaisedBy z In l
   added_raised ms i m h =
       ap (map (λ k. add high (raised z m.label) k.target))
       (select_image (raised_move z) (λ k. strictly_below k.label (raised z m.label)) (λ k. strictly_below k.label m.label) ms
-      (λ k j. R.Below-raised k.label m.label (i k j).0 (i m h).0))
+      (λ k j. R.below_raised k.label m.label (i k j).0 (i m h).0))
       ∙ map_image (raised_move z) (λ k. add high (raised z m.label) k.target) (λ k. add low m.label k.target) (raised_configuration z)
       (select (λ k. strictly_below k.label m.label) ms)
       (λ k j. R.add_raised m.label k.target (i m h).0 (i k (mem_select (λ k. strictly_below k.label m.label) ms j).0).1)

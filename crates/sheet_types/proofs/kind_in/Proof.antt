@@ -6,14 +6,14 @@ use Rattle.sheet_types.specs.NodeTableLaws.{column_at}
 use Rattle.sheet_types.proofs.kind_in.Statement.{statement}
 use Rattle.sheet_types.proofs.kind_in.Tie as tie
 
-add-result : tie.Need-overflow-add-result
+add-result : tie.Need-overflow_add-result
 add-result c = search rules
 
-element-copy-out-result : tie.Need-element-copy-out-result
+element-copy-out-result : tie.Need-bounds-table-k
 element-copy-out-result c = search rules
 
 returns : tie.Need-returns
-returns c = let a = c.before.args in sym (column_at kinds_at a.table.now a.k c.before.requires)
+returns c = let a = c.args in sym (column_at kinds_at a.table.now a.k c.requires)
 
-pub kind-in-spec : {M : Type 1} → statement M
-kind-in-spec = tie.close (tie.spec add-result element-copy-out-result returns)
+pub kind_in_spec : {M : Type 1} → statement M
+kind_in_spec = tie.close (tie.spec add-result element-copy-out-result returns)

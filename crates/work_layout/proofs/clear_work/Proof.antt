@@ -10,41 +10,41 @@ use Rattle.work_layout.proofs.clear_work.Statement.{statement}
 use Rattle.work_layout.proofs.clear_work.Tie as tie
 use Rattle.work_layout.specs.WorkLayout.{work_end}
 
-abbrev invariant-loop : tie.invariant-loop
+abbrev invariant-loop : tie.invariant-loop-i
 invariant-loop work₀ i₀ work i = (i ≤ work_end) × (work ≡ replicate i 0 ++ drop i work₀)
 
-abbrev decreases-loop : tie.decreases-loop
+abbrev decreases-loop : tie.decreases-loop-i
 decreases-loop work₀ i₀ work i = work_end - i
 
-loop-holds : tie.Need-loop-init invariant-loop decreases-loop
+loop-holds : tie.Need-loop-i-init invariant-loop decreases-loop
 loop-holds c = (search rules, fill_none _ 0)
 
-mul-work : tie.Need-overflow-mul-work invariant-loop decreases-loop
+mul-work : tie.Need-offset_bounds-work-i invariant-loop decreases-loop
 mul-work c = search rules
 
-slice-write-work : tie.Need-slice-write-work invariant-loop decreases-loop
-slice-write-work c = rw c.before.loop.invariant.1 (simp (length-append, length-replicate, length-drop) (omega arith))
+slice-write-work : tie.Need-bounds-work-i invariant-loop decreases-loop
+slice-write-work c = rw c.loop-i.invariant.1 (simp (length-append, length-replicate, length-drop) (omega arith))
 
-add-i : tie.Need-overflow-add-i invariant-loop decreases-loop
+add-i : tie.Need-overflow_add-i invariant-loop decreases-loop
 add-i c = search rules
 
-loop-less : tie.Need-loop-smaller invariant-loop decreases-loop
+loop-less : tie.Need-loop-i-smaller invariant-loop decreases-loop
 loop-less c = search rules
 
-loop-again : tie.Need-loop-preserved invariant-loop decreases-loop
+loop-again : tie.Need-loop-i-preserved invariant-loop decreases-loop
 loop-again c =
-    (search rules, rw c.before.loop.invariant.1 (fill_more c.before.loop.i 0 c.before.before.args.work.now (omega arith)))
+    (search rules, rw c.loop-i.invariant.1 (fill_more c.loop-i.i 0 c.args.work.now (omega arith)))
 
-same_length : tie.Need-same-length invariant-loop decreases-loop
-same_length c = rw c.before.loop.invariant.1 (simp (length-append, length-replicate, length-drop) (omega arith))
+same_length : tie.Need-shape_of-work invariant-loop decreases-loop
+same_length c = rw c.loop-i.invariant.1 (simp (length-append, length-replicate, length-drop) (omega arith))
 
 returns : tie.Need-returns invariant-loop decreases-loop
 returns c =
-    let e : c.before.loop.i ≡ work_end = omega arith in
-    rw e at c.before.loop.invariant.1
+    let e : c.loop-i.i ≡ work_end = omega arith in
+    rw e at c.loop-i.invariant.1
 
-pub clear-work-spec : {M : Type 1} → statement M
-clear-work-spec =
+pub clear_work_spec : {M : Type 1} → statement M
+clear_work_spec =
     tie.close
     (tie.spec
     invariant-loop

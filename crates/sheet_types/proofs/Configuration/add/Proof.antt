@@ -4,7 +4,7 @@ use Rattle.sheet_types.specs.AddedStore.{joined_added}
 use Rattle.sheet_types.proofs.Configuration.add.Statement.{statement}
 use Rattle.sheet_types.proofs.Configuration.add.Tie as tie
 
-closure-at-requires : tie.Need-closure-at-requires
+closure-at-requires : tie.Need-closure_at-requires
 closure-at-requires c κs = search rules
 
 returns : tie.Need-returns
