@@ -6,7 +6,7 @@ ghost use Rattle.packing.specs.Packing.{bytes_after, eight_bytes, side_of, stand
 ghost use Rattle.packing.specs.Bytes.{byte_of};
 
 // The store with the number of threads, the first four threads, the last four.
-#[derive(Drop)]
+#[derive(Clone, Copy)]
 pub struct Numbers {
     pub a: u32,
     pub b: u32,
