@@ -10,7 +10,7 @@ first-requires c κs = search rules
 constraint-requires : tie.Need-constraint-requires
 constraint-requires c κs = search rules
 
-joined-requires : tie.Need-joined-requires
+joined-requires : tie.Need-joined-store-requires
 joined-requires c κs = search rules
 
 second-requires : tie.Need-second-requires
@@ -21,12 +21,12 @@ find-requires c κs = search rules
 
 returns : tie.Need-returns
 returns c =
-    let a = c.before.before.before.before.before.before.args in
-    added_as a.w.now a.p a.e c.before.before.before.before.first.ensures c.before.before.before.constraint.ensures
-    c.before.before.joined.ensures c.before.second.ensures c.find.ensures
+    let a = c.args in
+    added_as a.w.now a.p a.e c.first.ensures c.constraint.ensures
+    c.joined-store.ensures c.second.ensures c.find.ensures
 
-pub added-spec : {M : Type 1} → statement M
-added-spec =
+pub added_spec : {M : Type 1} → statement M
+added_spec =
     tie.close
     (tie.spec
     first-requires

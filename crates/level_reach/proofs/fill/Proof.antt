@@ -4,22 +4,22 @@ use Rattle.level_tables.specs.Tells.{untold}
 use Rattle.level_reach.proofs.fill.Statement.{statement}
 use Rattle.level_reach.proofs.fill.Tie as tie
 
-take-in-requires : tie.Need-take-in-requires
+take-in-requires : tie.Need-take_in-requires
 take-in-requires c κs = search rules
 
 grow-requires : tie.Need-grow-requires
 grow-requires c κs = search rules
 
-same_length : tie.Need-same-length
+same_length : tie.Need-shape_of-w-then-take_in
 same_length c = search rules
 
-returns : tie.Need-returns
-returns c = c.before.before.grow.ensures
+returns : tie.Need-returns-then-take_in
+returns c = c.grow.ensures
 
-same-length-2 : tie.Need-same-length-2
+same-length-2 : tie.Need-shape_of-w
 same-length-2 c = search rules
 
-returns-2 : tie.Need-returns-2
+returns-2 : tie.Need-returns
 returns-2 c = untold
 
 pub fill_spec : {M : Type 1} → statement M

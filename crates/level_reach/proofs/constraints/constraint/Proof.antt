@@ -5,23 +5,23 @@ use Rattle.level_reach.specs.Constraints.{constraint_of}
 use Rattle.level_reach.proofs.constraints.constraint.Statement.{statement}
 use Rattle.level_reach.proofs.constraints.constraint.Tie as tie
 
-add-number-at : tie.Need-overflow-add-number-at
+add-number-at : tie.Need-overflow_add-number_at
 add-number-at c = search rules
 
-add-number-at-2 : tie.Need-overflow-add-number-at-2
+add-number-at-2 : tie.Need-overflow_add-e
 add-number-at-2 c = search rules
 
-number-at-requires : tie.Need-number-at-requires
+number-at-requires : tie.Need-number_at-requires
 number-at-requires c κs = search rules
 
-returns : tie.Need-returns
+returns : tie.Need-returns-then-e-lt-MOST_CONSTRAINTS
 unfolding constraint_of
-returns c = rw (constraint_of, lt-ltb _ _ c.before.if1.true) c.number_at_lem.ensures
+returns c = rw (constraint_of, lt-ltb _ _ c.if-e-lt-MOST_CONSTRAINTS.true) c.number_at.ensures
 
-returns-2 : tie.Need-returns-2
+returns-2 : tie.Need-returns-else-e-lt-MOST_CONSTRAINTS
 unfolding constraint_of
-returns-2 c = rw (constraint_of, le-ltb _ _ c.if1.false)
+returns-2 c = rw (constraint_of, le-ltb _ _ c.if-e-lt-MOST_CONSTRAINTS.false)
 
-pub constraint-spec : {M : Type 1} → statement M
-constraint-spec =
+pub constraint_spec : {M : Type 1} → statement M
+constraint_spec =
     tie.close (tie.spec add-number-at add-number-at-2 number-at-requires returns returns-2)

@@ -6,13 +6,13 @@ use borrow.Author.Rules.{rules}
 use Rattle.level_reach.proofs.intake.put_closures.Statement.{statement}
 use Rattle.level_reach.proofs.intake.put_closures.Tie as tie
 
-abbrev invariant-loop : tie.invariant-loop
+abbrev invariant-loop : tie.invariant-loop-s
 invariant-loop w₀ rules n sets s₀ w s = (s ≤ sets) × (length w ≡ length w₀)
 
-abbrev decreases-loop : tie.decreases-loop
+abbrev decreases-loop : tie.decreases-loop-s
 decreases-loop w₀ rules n sets s₀ w s = sets - s
 
-loop-holds : tie.Need-loop-init invariant-loop decreases-loop
+loop-holds : tie.Need-loop-s-init invariant-loop decreases-loop
 loop-holds c = search rules
 
 closure-requires : tie.Need-closure-requires invariant-loop decreases-loop
@@ -21,23 +21,23 @@ closure-requires c κs = search rules
 put-requires : tie.Need-put-requires invariant-loop decreases-loop
 put-requires c κs = search rules
 
-add-s : tie.Need-overflow-add-s invariant-loop decreases-loop
+add-s : tie.Need-overflow_add-s invariant-loop decreases-loop
 add-s c = search rules
 
-loop-less : tie.Need-loop-smaller invariant-loop decreases-loop
+loop-less : tie.Need-loop-s-smaller invariant-loop decreases-loop
 loop-less c = search rules
 
-loop-again : tie.Need-loop-preserved invariant-loop decreases-loop
+loop-again : tie.Need-loop-s-preserved invariant-loop decreases-loop
 loop-again c = search rules
 
-same_length : tie.Need-same-length invariant-loop decreases-loop
+same_length : tie.Need-shape_of-w invariant-loop decreases-loop
 same_length c = search rules
 
 returns : tie.Need-returns invariant-loop decreases-loop
 returns c = search rules
 
-pub put-closures-spec : {M : Type 1} → statement M
-put-closures-spec =
+pub put_closures_spec : {M : Type 1} → statement M
+put_closures_spec =
     tie.close
     (tie.spec
     invariant-loop
