@@ -5,21 +5,21 @@ use borrow.Author.Rules.{rules}
 use Rattle.dominance_tests.proofs.still_dominated.Statement.{statement}
 use Rattle.dominance_tests.proofs.still_dominated.Tie as tie
 
-returns : tie.Need-returns
-returns c = simp (eq-eqb _ _ c.if1.true)
+returns : tie.Need-returns-then-q-eq-NONE
+returns c = simp (eq-eqb _ _ c.if-q-eq-NONE.true)
 
-cast-class-at : tie.Need-overflow-cast-class-at
+cast-class-at : tie.Need-overflow_cast-q
 cast-class-at c = search rules
 
-class-at-requires : tie.Need-class-at-requires
-class-at-requires c κs = (c.before.before.requires.0 c.if1.false, c.before.before.requires.2)
+class-at-requires : tie.Need-class_at-requires
+class-at-requires c κs = (c.requires.0 c.if-q-eq-NONE.false, c.requires.2)
 
-class-at-requires-2 : tie.Need-class-at-requires-2
+class-at-requires-2 : tie.Need-class_at-requires-2
 class-at-requires-2 c κs = search rules
 
-returns-2 : tie.Need-returns-2
-returns-2 c = simp (ne_eqb _ _ c.before.before.if1.false, c.class-at2.ensures, c.before.class_at.ensures)
+returns-2 : tie.Need-returns
+returns-2 c = simp (ne_eqb _ _ c.if-q-eq-NONE.false, c.class_at-2.ensures, c.class_at.ensures)
 
-pub still-dominated-spec : {M : Type 1} → statement M
-still-dominated-spec =
+pub still_dominated_spec : {M : Type 1} → statement M
+still_dominated_spec =
     tie.close (tie.spec returns cast-class-at class-at-requires class-at-requires-2 returns-2)
