@@ -13,73 +13,57 @@ use Rattle.member_table.proofs.enter.Statement.{statement}
 use Rattle.member_table.proofs.enter.Tie as tie
 
 -- ---- the stages of the function, each from a later one
-abbrev start-of-place : tie.After-place → tie.Start
-start-of-place s = s.before.before.before
-
-abbrev place-of-else1 : tie.Else1 → tie.After-place
-place-of-else1 s = s.before
-
-abbrev else1-of-put-in : tie.After-put-in → tie.Else1
-else1-of-put-in s = s.before.before.before
-
 -- ---- what is left to show
-place-requires : tie.Need-place-requires
+place-requires : tie.Need-place-spot-requires
 place-requires c κs = search rules
 
-id-in-requires : tie.Need-id-in-requires
-id-in-requires c κs = (c.before.before.before.before.before.requires.0, (c.before.before.place.ensures.hit c.before.if1.true).0)
+id-in-requires : tie.Need-id_in-id-requires
+id-in-requires c κs = (c.requires.0, (c.place-spot.ensures.hit c.if-spot.true).0)
 
-same_length : tie.Need-same-length
+same_length : tie.Need-shape_of-work-then-spot
 same_length c = search rules
 
-returns : tie.Need-returns
+returns : tie.Need-returns-then-spot
 returns c =
-    let b = c.before.before.before.before.before.before in
-    let g = b.args in
+    let g = c.args in
     let w : List ℕ = g.work.now in
     let p : Configuration = stands_for g.x in
-    let r = c.before.before.before.place in
-    let q : Placed w g.n p true r.result.at = subst (λ (f : Bool). Placed w g.n p f r.result.at) c.before.before.if1.true r.ensures in
-    rw c.id_in_lem.ensures.0 (entered_old w g.n g.limit p r.result.at b.requires.0 b.requires.2 q)
+    let r = c.place-spot in
+    let q : Placed w g.n p true r.result.at = subst (λ (f : Bool). Placed w g.n p f r.result.at) c.if-spot.true r.ensures in
+    rw c.id_in-id.ensures.0 (entered_old w g.n g.limit p r.result.at c.requires.0 c.requires.2 q)
 
-same-length-2 : tie.Need-same-length-2
+same-length-2 : tie.Need-shape_of-work-then-n-limit
 same-length-2 c = search rules
 
-returns-2 : tie.Need-returns-2
+returns-2 : tie.Need-returns-then-n-limit
 returns-2 c =
-    let b = c.before.before.before.before.before in
-    let g = b.args in
+    let g = c.args in
     let w : List ℕ = g.work.now in
     let p : Configuration = stands_for g.x in
-    let r = c.before.before.place in
-    let q : Placed w g.n p false r.result.at = subst (λ (f : Bool). Placed w g.n p f r.result.at) c.before.if1.false r.ensures in
-    (c.if2.true, refl, placed_apart w g.n p r.result.at b.requires.0 q)
+    let r = c.place-spot in
+    let q : Placed w g.n p false r.result.at = subst (λ (f : Bool). Placed w g.n p f r.result.at) c.if-spot.false r.ensures in
+    (c.if-n-limit.true, refl, placed_apart w g.n p r.result.at c.requires.0 q)
 
-put-in-requires : tie.Need-put-in-requires
+put-in-requires : tie.Need-put_in-requires
 put-in-requires c κs =
-    let b = c.before.before.before.before.before.before in
-    (c.before.before.before.place.ensures.within, omega arith, b.requires.0.long)
+    (c.place-spot.ensures.within, omega arith, c.requires.0.long)
 
-add-t16 : tie.Need-overflow-add-t16
+add-t16 : tie.Need-overflow_add-result
 add-t16 c = search rules
 
-same-length-3 : tie.Need-same-length-3
+same-length-3 : tie.Need-shape_of-work
 same-length-3 c = search rules
 
-returns-3 : tie.Need-returns-3
+returns-3 : tie.Need-returns
 returns-3 c =
-    let at-put-in = c.before.before in
-    let at-else1 = else1-of-put-in at-put-in in
-    let at_place = place-of-else1 at-else1 in
-    let b = start-of-place at_place in
-    let g = b.args in
+    let g = c.args in
     let w : List ℕ = g.work.now in
     let p : Configuration = stands_for g.x in
-    let r = at_place.place in
-    let i = at-put-in.put_in in
+    let r = c.place-spot in
+    let i = c.put_in in
     let q : Placed w g.n p false r.result.at =
-    subst (λ (f : Bool). Placed w g.n p f r.result.at) at-else1.if1.left r.ensures in
-    entered_new w i.new.0 g.n r.result.at g.x b.pre.0 i.ensures g.limit (omega arith) b.pre.3 b.pre.1 q
+    subst (λ (f : Bool). Placed w g.n p f r.result.at) c.if-spot.false r.ensures in
+    entered_new w i.new.work g.n r.result.at g.x c.requires.0 i.ensures g.limit (omega arith) c.requires.3 c.requires.1 q
 
 pub enter_spec : {M : Type 1} → statement M
 enter_spec =

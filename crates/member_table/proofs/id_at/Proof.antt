@@ -5,28 +5,28 @@ use borrow.Author.Rules.{rules}
 use Rattle.member_table.proofs.id_at.Statement.{statement}
 use Rattle.member_table.proofs.id_at.Tie as tie
 
-add-end : tie.Need-overflow-add-end
-add-end c = let b = c.before in omega (arith, part_fits b.args.work.now b.args.base b.args.n b.requires.0)
+add-end : tie.Need-overflow_add-end
+add-end c = omega (arith, part_fits c.args.work.now c.args.base c.args.n c.requires.0)
 
-mul-id-in : tie.Need-overflow-mul-id-in
-mul-id-in c = let b = c.before in omega (arith, part_fits b.args.work.now b.args.base b.args.n b.requires.0)
+mul-id-in : tie.Need-offset_bounds-work-base
+mul-id-in c = omega (arith, part_fits c.args.work.now c.args.base c.args.n c.requires.0)
 
-sub-id-in : tie.Need-overflow-sub-id-in
+sub-id-in : tie.Need-slice_bounds-id_in-count
 sub-id-in c = search rules
 
-part-id-in-start : tie.Need-slice-bounds-id-in-start
+part-id-in-start : tie.Need-slice_bounds-id_in-start
 part-id-in-start c = search rules
 
-part-id-in-end : tie.Need-slice-bounds-id-in-end
-part-id-in-end c = let b = c.before in omega (arith, part_fits b.args.work.now b.args.base b.args.n b.requires.0)
+part-id-in-end : tie.Need-slice_bounds-id_in-end
+part-id-in-end c = omega (arith, part_fits c.args.work.now c.args.base c.args.n c.requires.0)
 
-id-in-requires : tie.Need-id-in-requires
-id-in-requires c κs = let b = c.before.before in (lent_kept b.args.work.now b.args.base b.args.n b.requires.0, b.requires.1)
+id-in-requires : tie.Need-id_in-requires
+id-in-requires c κs = (lent_kept c.args.work.now c.args.base c.args.n c.requires.0, c.requires.1)
 
 returns : tie.Need-returns
-returns c = let b = c.before.before.before in lent_id b.args.work.now b.args.base b.args.n b.args.j c.id_in_lem.result c.id_in_lem.ensures
+returns c = lent_id c.args.work.now c.args.base c.args.n c.args.j c.id_in.result c.id_in.ensures
 
-pub id-at-spec : {M : Type 1} → statement M
-id-at-spec =
+pub id_at_spec : {M : Type 1} → statement M
+id_at_spec =
     tie.close
     (tie.spec add-end mul-id-in sub-id-in part-id-in-start part-id-in-end id-in-requires returns)

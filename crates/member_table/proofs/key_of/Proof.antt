@@ -5,32 +5,31 @@ use borrow.Author.Rules.{rules}
 use Rattle.member_table.proofs.key_of.Statement.{statement}
 use Rattle.member_table.proofs.key_of.Tie as tie
 
-add-end : tie.Need-overflow-add-end
-add-end c = let b = c.before in omega (arith, part_fits b.args.work.now b.args.base b.args.n b.requires.0)
+add-end : tie.Need-overflow_add-end
+add-end c = omega (arith, part_fits c.args.work.now c.args.base c.args.n c.requires.0)
 
-mul-key-in : tie.Need-overflow-mul-key-in
-mul-key-in c = let b = c.before in omega (arith, part_fits b.args.work.now b.args.base b.args.n b.requires.0)
+mul-key-in : tie.Need-offset_bounds-work-base
+mul-key-in c = omega (arith, part_fits c.args.work.now c.args.base c.args.n c.requires.0)
 
-sub-key-in : tie.Need-overflow-sub-key-in
+sub-key-in : tie.Need-slice_bounds-key_in-count
 sub-key-in c = search rules
 
-part-key-in-start : tie.Need-slice-bounds-key-in-start
+part-key-in-start : tie.Need-slice_bounds-key_in-start
 part-key-in-start c = search rules
 
-part-key-in-end : tie.Need-slice-bounds-key-in-end
-part-key-in-end c = let b = c.before in omega (arith, part_fits b.args.work.now b.args.base b.args.n b.requires.0)
+part-key-in-end : tie.Need-slice_bounds-key_in-end
+part-key-in-end c = omega (arith, part_fits c.args.work.now c.args.base c.args.n c.requires.0)
 
-key-in-requires : tie.Need-key-in-requires
-key-in-requires c κs = let b = c.before.before in (lent_kept b.args.work.now b.args.base b.args.n b.requires.0, b.requires.1)
+key-in-requires : tie.Need-key_in-requires
+key-in-requires c κs = (lent_kept c.args.work.now c.args.base c.args.n c.requires.0, c.requires.1)
 
 returns : tie.Need-returns
 returns c =
-    let b = c.before.before.before in
-    lent_key b.args.work.now b.args.base b.args.n b.args.id c.key_in.result
-    b.requires.0 b.requires.1 c.key_in.ensures
+    lent_key c.args.work.now c.args.base c.args.n c.args.id c.key_in.result
+    c.requires.0 c.requires.1 c.key_in.ensures
 
-pub key-of-spec : {M : Type 1} → statement M
-key-of-spec =
+pub key_of_spec : {M : Type 1} → statement M
+key_of_spec =
     tie.close
     (tie.spec
     add-end

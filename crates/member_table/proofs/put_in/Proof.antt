@@ -10,60 +10,49 @@ use Rattle.member_table.proofs.put_in.Statement.{statement}
 use Rattle.member_table.proofs.put_in.Tie as tie
 
 -- ---- the stages of the function, each from a later one
-abbrev start-of-shift-up : tie.After-shift-up → tie.Start
-start-of-shift-up s = s.before.before.before
-
-abbrev shift-up-of-put-three : tie.After-put-three → tie.After-shift-up
-shift-up-of-put-three s = s.before.before.before.before
-
 -- ---- what is left to show
-add-shift-up : tie.Need-overflow-add-shift-up
+add-shift-up : tie.Need-overflow_add-at
 add-shift-up c = search rules
 
-add-shift-up-2 : tie.Need-overflow-add-shift-up-2
+add-shift-up-2 : tie.Need-overflow_add-n
 add-shift-up-2 c = search rules
 
-shift-up-requires : tie.Need-shift-up-requires
+shift-up-requires : tie.Need-shift_up-requires
 shift-up-requires c κs = search rules
 
-cast-work : tie.Need-overflow-cast-work
+cast-work : tie.Need-overflow_cast-work
 cast-work c = search rules
 
-add-work : tie.Need-overflow-add-work
+add-work : tie.Need-overflow_add-work
 add-work c = search rules
 
-mul-work : tie.Need-overflow-mul-work
+mul-work : tie.Need-offset_bounds-work-at
 mul-work c = search rules
 
-slice-write-work : tie.Need-slice-write-work
+slice-write-work : tie.Need-bounds-work-at
 slice-write-work c = search rules
 
-mul-put-three : tie.Need-overflow-mul-put-three
+mul-put-three : tie.Need-overflow_mul-n
 mul-put-three c = search rules
 
-put-three-requires : tie.Need-put-three-requires
+put-three-requires : tie.Need-put_three-requires
 put-three-requires c κs = simp length-set (omega arith)
 
-same_length : tie.Need-same-length
+same_length : tie.Need-shape_of-work
 same_length c =
-    let at-put-three = c.before.before in
-    let at-shift-up = shift-up-of-put-three at-put-three in
-    let g = (start-of-shift-up at-shift-up).args in
-    let u = at-shift-up.shift-up in
-    at-put-three.put_three.auto.0 ∙ length-set u.last.0 (table_ids + g.at) g.n ∙ u.kept.0
+    let g = c.args in
+    let u = c.shift_up in
+    c.put_three.auto.work ∙ length-set u.new.work (table_ids + g.at) g.n ∙ u.auto.work
 
 returns : tie.Need-returns
 returns c =
-    let at-put-three = c.before.before in
-    let at-shift-up = shift-up-of-put-three at-put-three in
-    let b = start-of-shift-up at-shift-up in
-    let g = b.args in
-    let u = at-shift-up.shift-up in
-    rw at-put-three.put_three.ensures
-    (put_in g.work.now u.last.0 g.n g.at g.x u.ensures b.pre.0 b.pre.1 b.pre.2)
+    let g = c.args in
+    let u = c.shift_up in
+    rw c.put_three.ensures
+    (put_in g.work.now u.new.work g.n g.at g.x u.ensures c.requires.0 c.requires.1 c.requires.2)
 
-pub put-in-spec : {M : Type 1} → statement M
-put-in-spec =
+pub put_in_spec : {M : Type 1} → statement M
+put_in_spec =
     tie.close
     (tie.spec
     add-shift-up

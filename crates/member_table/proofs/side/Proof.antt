@@ -4,10 +4,10 @@ use borrow.Author.Rules.{rules}
 use Rattle.member_table.proofs.side.Statement.{statement}
 use Rattle.member_table.proofs.side.Tie as tie
 
-id-in-requires : tie.Need-id-in-requires
+id-in-requires : tie.Need-id_in-id-requires
 id-in-requires c κs = search rules
 
-key-in-requires : tie.Need-key-in-requires
+key-in-requires : tie.Need-key_in-key-requires
 key-in-requires c κs = search rules
 
 compare-requires : tie.Need-compare-requires
@@ -15,11 +15,10 @@ compare-requires c κs = search rules
 
 returns : tie.Need-returns
 returns c =
-    let b = c.before.before.before.before in
-    let g = b.args in
-    let i = c.before.before.id_in_lem in
-    side_at g.work.now g.n g.j i.result g.x c.before.key_in.result c.compare.result b.requires.0 b.requires.1 b.requires.2
-    i.ensures.0 c.before.key_in.ensures c.compare.ensures
+    let g = c.args in
+    let i = c.id_in-id in
+    side_at g.work.now g.n g.j i.result g.x c.key_in-key.result c.compare.result c.requires.0 c.requires.1 c.requires.2
+    i.ensures.0 c.key_in-key.ensures c.compare.ensures
 
-pub side-spec : {M : Type 1} → statement M
-side-spec = tie.close (tie.spec id-in-requires key-in-requires compare-requires returns)
+pub side_spec : {M : Type 1} → statement M
+side_spec = tie.close (tie.spec id-in-requires key-in-requires compare-requires returns)

@@ -6,14 +6,14 @@ use borrow.Author.Rules.{rules}
 use Rattle.member_table.proofs.store_of.Statement.{statement}
 use Rattle.member_table.proofs.store_of.Tie as tie
 
-key-of-requires : tie.Need-key-of-requires
+key-of-requires : tie.Need-key_of-key-requires
 key-of-requires c κs = search rules
 
-cast-result : tie.Need-overflow-cast-result
-cast-result c = omega (arith, c.before.key_of.ensures.0.fits.small)
+cast-result : tie.Need-overflow_cast-result
+cast-result c = omega (arith, c.key_of-key.ensures.0.fits.small)
 
 returns : tie.Need-returns
-returns c = ap (λ (p : Configuration). p.store) c.before.key_of.ensures.1
+returns c = ap (λ (p : Configuration). p.store) c.key_of-key.ensures.1
 
-pub store-of-spec : {M : Type 1} → statement M
-store-of-spec = tie.close (tie.spec key-of-requires cast-result returns)
+pub store_of_spec : {M : Type 1} → statement M
+store_of_spec = tie.close (tie.spec key-of-requires cast-result returns)
