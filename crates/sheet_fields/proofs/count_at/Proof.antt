@@ -10,33 +10,33 @@ use borrow.Author.Rules.{rules}
 use Rattle.sheet_fields.proofs.count_at.Statement.{statement}
 use Rattle.sheet_fields.proofs.count_at.Tie as tie
 
-byte-at-requires : tie.Need-byte-at-requires
+byte-at-requires : tie.Need-byte_at-r-requires
 byte-at-requires c κs = search rules
 
-enum-known-r : tie.Need-enum-known-r
+enum-known-r : tie.Need-enum_known-r
 enum-known-r c = search rules
 
-enum_told : tie.Need-enum-told
+enum_told : tie.Need-enum_told-1
 enum_told c = search rules
 
-returns : tie.Need-returns
+returns : tie.Need-returns-in_default
 unfolding count_at
-returns c = same_then c.before.before.byte_at.ensures _ c.enum_told.given.1
+returns c = same_then c.byte_at-r.ensures _ c.in_default.is
 
-returns-2 : tie.Need-returns-2
+returns-2 : tie.Need-returns-then-n-low
 unfolding count_at
 returns-2 c =
-    let a = c.before.before.before.before.before.before.args in
-    wrong_then c.before.before.before.before.byte_at.ensures (λ n. ltb n a.low || ltb a.high n) a.number a.at c.before.before.r.given.1
-    (⊎_elim (λ w. or_left _ (lt-ltb _ _ w.taken)) (λ w. or_right (ltb c.before.before.r.given.0.0 a.low) w.1.taken) c.if1.branch)
+    let a = c.args in
+    wrong_then c.byte_at-r.ensures (λ n. ltb n a.low || ltb a.high n) a.number a.at c.in-Got.is
+    (⊎_elim (λ w. or_left _ (lt-ltb _ _ w.if-n-low.true)) (λ w. or_right (ltb c.in-Got.n a.low) (lt-ltb _ _ w.if-high-n.true)) c.then-n-low.branch-raw)
 
-returns-3 : tie.Need-returns-3
+returns-3 : tie.Need-returns
 unfolding count_at
 returns-3 c =
-    let a = c.before.before.before.before.before.before.before.args in
-    right_then c.before.before.before.before.before.byte_at.ensures (λ n. ltb n a.low || ltb a.high n) a.number a.at
-    c.before.before.before.r.given.1 (or_fails (le-ltb _ _ c.before.if1.false) c.if2.false)
+    let a = c.args in
+    right_then c.byte_at-r.ensures (λ n. ltb n a.low || ltb a.high n) a.number a.at
+    c.in-Got.is (or_fails (le-ltb _ _ c.if-n-low.false) (le-ltb _ _ c.if-high-n.false))
 
-pub count-at-spec : {M : Type 1} → statement M
-count-at-spec =
+pub count_at_spec : {M : Type 1} → statement M
+count_at_spec =
     tie.close (tie.spec byte-at-requires enum-known-r enum_told returns returns-2 returns-3)

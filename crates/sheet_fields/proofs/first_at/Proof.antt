@@ -6,32 +6,31 @@ use borrow.Author.Rules.{rules}
 use Rattle.sheet_fields.proofs.first_at.Statement.{statement}
 use Rattle.sheet_fields.proofs.first_at.Tie as tie
 
-unused-at-requires : tie.Need-unused-at-requires
+unused-at-requires : tie.Need-unused_at-requires
 unused-at-requires c κs = search rules
 
-set-at-requires : tie.Need-set-at-requires
+set-at-requires : tie.Need-set_at-requires
 set-at-requires c κs = search rules
 
-below-at-requires : tie.Need-below-at-requires
+below-at-requires : tie.Need-below_at-requires
 below-at-requires c κs = search rules
 
-returns : tie.Need-returns
+returns : tie.Need-returns-in-0
 returns c =
-    let a = c.before.before.before.args in
-    c.unused-at.ensures ∙ sym (first_unused a.kind a.facts a.number a.s.now a.at c.before.match.keys1)
+    let a = c.args in
+    c.unused_at.ensures ∙ sym (first_unused a.kind a.facts a.number a.s.now a.at c.in-0.is)
 
-returns-2 : tie.Need-returns-2
+returns-2 : tie.Need-returns-in-1
 returns-2 c =
-    let a = c.before.before.before.before.args in
-    let some : a.kind ≡ 0 → ⊥ = c.before.before.match.rest.1 in
+    let a = c.args in
     c.set_at.ensures ∙ sym (first_set a.kind a.facts a.number a.s.now a.at (omega arith) (omega arith))
 
-returns-3 : tie.Need-returns-3
+returns-3 : tie.Need-returns-in_default
 returns-3 c =
-    let a = c.before.before.before.before.args in
-    c.below_at.ensures ∙ sym (first_below a.kind a.facts a.number a.s.now a.at c.before.if1.false)
+    let a = c.args in
+    c.below_at.ensures ∙ sym (first_below a.kind a.facts a.number a.s.now a.at (omega arith))
 
-pub first-at-spec : {M : Type 1} → statement M
-first-at-spec =
+pub first_at_spec : {M : Type 1} → statement M
+first_at_spec =
     tie.close
     (tie.spec unused-at-requires set-at-requires below-at-requires returns returns-2 returns-3)

@@ -9,25 +9,25 @@ use borrow.Author.Rules.{rules}
 use Rattle.sheet_fields.proofs.name_at.Statement.{statement}
 use Rattle.sheet_fields.proofs.name_at.Tie as tie
 
-sub-if1 : tie.Need-overflow-sub-if1
+sub-if1 : tie.Need-overflow_sub-s
 sub-if1 c = search rules
 
-returns : tie.Need-returns
+returns : tie.Need-returns-then-s-at-lt-NAME_LENGTH
 unfolding name_at
 returns c =
-    let a = c.before.before.args in
+    let a = c.args in
     let cut : length a.s.now < a.at + name_length = omega arith in
     simp (lt-ltb _ _ cut)
 
-name-bytes-requires : tie.Need-name-bytes-requires
+name-bytes-requires : tie.Need-name_bytes-requires
 name-bytes-requires c κs = search rules
 
-returns-2 : tie.Need-returns-2
+returns-2 : tie.Need-returns
 unfolding name_at
 returns-2 c =
-    let a = c.before.before.before.args in
+    let a = c.args in
     let there : a.at + name_length ≤ length a.s.now = omega arith in
-    simp (le-ltb _ _ there, c.name-bytes.ensures)
+    simp (le-ltb _ _ there, c.name_bytes.ensures)
 
-pub name-at-spec : {M : Type 1} → statement M
-name-at-spec = tie.close (tie.spec sub-if1 returns name-bytes-requires returns-2)
+pub name_at_spec : {M : Type 1} → statement M
+name_at_spec = tie.close (tie.spec sub-if1 returns name-bytes-requires returns-2)

@@ -6,32 +6,31 @@ use borrow.Author.Rules.{rules}
 use Rattle.sheet_fields.proofs.second_at.Statement.{statement}
 use Rattle.sheet_fields.proofs.second_at.Tie as tie
 
-below-at-requires : tie.Need-below-at-requires
+below-at-requires : tie.Need-below_at-requires
 below-at-requires c κs = search rules
 
-unused-at-requires : tie.Need-unused-at-requires
+unused-at-requires : tie.Need-unused_at-requires
 unused-at-requires c κs = search rules
 
-below-at-requires-2 : tie.Need-below-at-requires-2
+below-at-requires-2 : tie.Need-below_at-requires-in_default
 below-at-requires-2 c κs = search rules
 
-returns : tie.Need-returns
+returns : tie.Need-returns-in-2
 returns c =
-    let a = c.before.before.before.args in
-    c.below_at.ensures ∙ sym (second_any a.kind a.nodes a.number a.s.now a.at c.before.match.keys1)
+    let a = c.args in
+    c.below_at.ensures ∙ sym (second_any a.kind a.nodes a.number a.s.now a.at c.in-2.is)
 
-returns-2 : tie.Need-returns-2
+returns-2 : tie.Need-returns-in-0
 returns-2 c =
-    let a = c.before.before.before.before.args in
-    c.unused-at.ensures ∙ sym (second_unused a.kind a.nodes a.number a.s.now a.at (omega arith))
+    let a = c.args in
+    c.unused_at.ensures ∙ sym (second_unused a.kind a.nodes a.number a.s.now a.at (omega arith))
 
-returns-3 : tie.Need-returns-3
+returns-3 : tie.Need-returns-in_default
 returns-3 c =
-    let a = c.before.before.before.before.args in
-    let other : a.kind ≡ 2 → ⊥ = c.before.before.match.rest.1 in
-    c.below-at2.ensures ∙ sym (second_below a.kind a.nodes a.number a.s.now a.at (omega arith))
+    let a = c.args in
+    c.below_at-in_default.ensures ∙ sym (second_below a.kind a.nodes a.number a.s.now a.at (omega arith))
 
-pub second-at-spec : {M : Type 1} → statement M
-second-at-spec =
+pub second_at_spec : {M : Type 1} → statement M
+second_at_spec =
     tie.close
     (tie.spec below-at-requires unused-at-requires below-at-requires-2 returns returns-2 returns-3)

@@ -8,31 +8,31 @@ use borrow.Author.Rules.{rules}
 use Rattle.sheet_fields.proofs.set_at.Statement.{statement}
 use Rattle.sheet_fields.proofs.set_at.Tie as tie
 
-word-at-requires : tie.Need-word-at-requires
+word-at-requires : tie.Need-word_at-r-requires
 word-at-requires c κs = search rules
 
-enum-known-r : tie.Need-enum-known-r
+enum-known-r : tie.Need-enum_known-r
 enum-known-r c = search rules
 
-enum_told : tie.Need-enum-told
+enum_told : tie.Need-enum_told-1
 enum_told c = search rules
 
-returns : tie.Need-returns
+returns : tie.Need-returns-in_default
 unfolding set_at
-returns c = same_then c.before.before.word_at.ensures _ c.enum_told.given.1
+returns c = same_then c.word_at-r.ensures _ c.in_default.is
 
-shr-if1 : tie.Need-overflow-shr-if1
+shr-if1 : tie.Need-overflow_shr-set
 shr-if1 c = search rules
 
-returns-2 : tie.Need-returns-2
+returns-2 : tie.Need-returns-then-set-facts-ne0
 unfolding set_at
-returns-2 c = wrong_then c.before.before.before.before.word_at.ensures (λ set. leb (2 ^ c.before.before.before.before.before.before.args.facts) set) 5 c.before.before.before.before.before.before.args.at c.before.before.r.given.1 (shifted_some _ _ c.if1.true)
+returns-2 c = wrong_then c.word_at-r.ensures (λ set. leb (2 ^ c.args.facts) set) 5 c.args.at c.in-Got.is (shifted_some _ _ c.if-set-facts-ne0.true)
 
-returns-3 : tie.Need-returns-3
+returns-3 : tie.Need-returns
 unfolding set_at
-returns-3 c = right_then c.before.before.before.before.word_at.ensures (λ set. leb (2 ^ c.before.before.before.before.before.before.args.facts) set) 5 c.before.before.before.before.before.before.args.at c.before.before.r.given.1 (shifted_none _ _ c.if1.false)
+returns-3 c = right_then c.word_at-r.ensures (λ set. leb (2 ^ c.args.facts) set) 5 c.args.at c.in-Got.is (shifted_none _ _ c.if-set-facts-ne0.false)
 
-pub set-at-spec : {M : Type 1} → statement M
-set-at-spec =
+pub set_at_spec : {M : Type 1} → statement M
+set_at_spec =
     tie.close
     (tie.spec word-at-requires enum-known-r enum_told returns shr-if1 returns-2 returns-3)

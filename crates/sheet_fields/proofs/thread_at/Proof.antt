@@ -7,27 +7,27 @@ use borrow.Author.Rules.{rules}
 use Rattle.sheet_fields.proofs.thread_at.Statement.{statement}
 use Rattle.sheet_fields.proofs.thread_at.Tie as tie
 
-byte-at-requires : tie.Need-byte-at-requires
+byte-at-requires : tie.Need-byte_at-r-requires
 byte-at-requires c κs = search rules
 
-enum-known-r : tie.Need-enum-known-r
+enum-known-r : tie.Need-enum_known-r
 enum-known-r c = search rules
 
-enum_told : tie.Need-enum-told
+enum_told : tie.Need-enum_told-1
 enum_told c = search rules
 
-returns : tie.Need-returns
+returns : tie.Need-returns-in_default
 unfolding thread_at
-returns c = same_then c.before.before.byte_at.ensures _ c.enum_told.given.1
+returns c = same_then c.byte_at-r.ensures _ c.in_default.is
 
-returns-2 : tie.Need-returns-2
+returns-2 : tie.Need-returns-then-nodes-k
 unfolding thread_at
-returns-2 c = wrong_then c.before.before.before.before.byte_at.ensures (λ k. leb c.before.before.before.before.before.before.args.nodes k) 9 c.before.before.before.before.before.before.args.at c.before.before.r.given.1 (le-leb _ _ c.if1.true)
+returns-2 c = wrong_then c.byte_at-r.ensures (λ k. leb c.args.nodes k) 9 c.args.at c.in-Got.is (le-leb _ _ c.if-nodes-k.true)
 
-returns-3 : tie.Need-returns-3
+returns-3 : tie.Need-returns
 unfolding thread_at
-returns-3 c = right_then c.before.before.before.before.byte_at.ensures (λ k. leb c.before.before.before.before.before.before.args.nodes k) 9 c.before.before.before.before.before.before.args.at c.before.before.r.given.1 (lt-leb _ _ c.if1.false)
+returns-3 c = right_then c.byte_at-r.ensures (λ k. leb c.args.nodes k) 9 c.args.at c.in-Got.is (lt-leb _ _ c.if-nodes-k.false)
 
-pub thread-at-spec : {M : Type 1} → statement M
-thread-at-spec =
+pub thread_at_spec : {M : Type 1} → statement M
+thread_at_spec =
     tie.close (tie.spec byte-at-requires enum-known-r enum_told returns returns-2 returns-3)
