@@ -9,46 +9,44 @@ use native.Mathlib.Omega.{arith}
 use Rattle.set_order.proofs.arrange_all.Statement.{statement}
 use Rattle.set_order.proofs.arrange_all.Tie as tie
 
-abbrev invariant-loop : tie.invariant-loop
+abbrev invariant-loop : tie.invariant-loop-id
 invariant-loop w₀ n id₀ w id = (id ≤ n) × (length w ≡ length w₀) × AllArranged w₀ n id w
 
-abbrev decreases-loop : tie.decreases-loop
+abbrev decreases-loop : tie.decreases-loop-id
 decreases-loop w₀ n id₀ w id = n - id
 
-loop-holds : tie.Need-loop-init invariant-loop decreases-loop
-loop-holds c = let g = c.before.args in (omega arith, search rules, all_none g.work.now g.n)
+loop-holds : tie.Need-loop-id-init invariant-loop decreases-loop
+loop-holds c = let g = c.args in (omega arith, search rules, all_none g.work.now g.n)
 
-arrange-moves-requires : tie.Need-arrange-moves-requires invariant-loop decreases-loop
+arrange-moves-requires : tie.Need-arrange_moves-requires invariant-loop decreases-loop
 arrange-moves-requires c κs =
-    let b = c.before.before.before.before in
-    let l = c.before.before.loop in
-    (omega (arith, b.requires.long), omega (arith, b.requires.room), all_ready l.invariant.2 b.requires (omega arith))
+    let l = c.loop-id in
+    (omega (arith, c.requires.long), omega (arith, c.requires.room), all_ready l.invariant.2 c.requires (omega arith))
 
-add-id : tie.Need-overflow-add-id invariant-loop decreases-loop
+add-id : tie.Need-overflow_add-id invariant-loop decreases-loop
 add-id c = search rules
 
-loop-less : tie.Need-loop-smaller invariant-loop decreases-loop
+loop-less : tie.Need-loop-id-smaller invariant-loop decreases-loop
 loop-less c = search rules
 
-loop-again : tie.Need-loop-preserved invariant-loop decreases-loop
+loop-again : tie.Need-loop-id-preserved invariant-loop decreases-loop
 loop-again c =
-    let b = c.before.before.before.before.before.before.before in
-    let l = c.before.before.before.before.before.loop in
-    let r = all_more l.invariant.2 b.requires (omega arith) c.before.before.arrange-moves.ensures in
+    let l = c.loop-id in
+    let r = all_more l.invariant.2 c.requires (omega arith) c.arrange_moves.ensures in
     (omega arith, r.outside.long, r)
 
-same_length : tie.Need-same-length invariant-loop decreases-loop
+same_length : tie.Need-shape_of-work invariant-loop decreases-loop
 same_length c = search rules
 
 returns : tie.Need-returns invariant-loop decreases-loop
 returns c =
-    let g = c.before.before.before.args in
-    let l = c.before.loop in
+    let g = c.args in
+    let l = c.loop-id in
     let e : l.id ≡ g.n = omega arith in
     subst (λ (z : ℕ). AllArranged g.work.now g.n z l.work) e l.invariant.2
 
-pub arrange-all-spec : {M : Type 1} → statement M
-arrange-all-spec =
+pub arrange_all_spec : {M : Type 1} → statement M
+arrange_all_spec =
     tie.close
     (tie.spec
     invariant-loop

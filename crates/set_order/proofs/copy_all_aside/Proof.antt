@@ -9,46 +9,44 @@ use native.Mathlib.Omega.{arith}
 use Rattle.set_order.proofs.copy_all_aside.Statement.{statement}
 use Rattle.set_order.proofs.copy_all_aside.Tie as tie
 
-abbrev invariant-loop : tie.invariant-loop
+abbrev invariant-loop : tie.invariant-loop-j
 invariant-loop w₀ n j₀ w j = (j ≤ n) × (length w ≡ length w₀) × AllAside w₀ j w
 
-abbrev decreases-loop : tie.decreases-loop
+abbrev decreases-loop : tie.decreases-loop-j
 decreases-loop w₀ n j₀ w j = n - j
 
-loop-holds : tie.Need-loop-init invariant-loop decreases-loop
-loop-holds c = let g = c.before.args in (omega arith, search rules, aside_none g.work.now)
+loop-holds : tie.Need-loop-j-init invariant-loop decreases-loop
+loop-holds c = let g = c.args in (omega arith, search rules, aside_none g.work.now)
 
-copy-aside-requires : tie.Need-copy-aside-requires invariant-loop decreases-loop
+copy-aside-requires : tie.Need-copy_aside-requires invariant-loop decreases-loop
 copy-aside-requires c κs =
-    let b = c.before.before.before.before in
-    let l = c.before.before.loop in
-    (aside_kept b.args.n l.invariant.2 b.requires (omega arith), omega arith)
+    let l = c.loop-j in
+    (aside_kept c.args.n l.invariant.2 c.requires (omega arith), omega arith)
 
-add-j : tie.Need-overflow-add-j invariant-loop decreases-loop
+add-j : tie.Need-overflow_add-j invariant-loop decreases-loop
 add-j c = search rules
 
-loop-less : tie.Need-loop-smaller invariant-loop decreases-loop
+loop-less : tie.Need-loop-j-smaller invariant-loop decreases-loop
 loop-less c = search rules
 
-loop-again : tie.Need-loop-preserved invariant-loop decreases-loop
+loop-again : tie.Need-loop-j-preserved invariant-loop decreases-loop
 loop-again c =
-    let b = c.before.before.before.before.before.before.before in
-    let l = c.before.before.before.before.before.loop in
-    let r = aside_more b.args.n l.invariant.2 b.requires (omega arith) c.before.before.copy-aside.ensures in
+    let l = c.loop-j in
+    let r = aside_more c.args.n l.invariant.2 c.requires (omega arith) c.copy_aside.ensures in
     (omega arith, r.outside.long, r)
 
-same_length : tie.Need-same-length invariant-loop decreases-loop
+same_length : tie.Need-shape_of-work invariant-loop decreases-loop
 same_length c = search rules
 
 returns : tie.Need-returns invariant-loop decreases-loop
 returns c =
-    let g = c.before.before.before.args in
-    let l = c.before.loop in
+    let g = c.args in
+    let l = c.loop-j in
     let e : l.j ≡ g.n = omega arith in
     subst (λ (z : ℕ). AllAside g.work.now z l.work) e l.invariant.2
 
-pub copy-all-aside-spec : {M : Type 1} → statement M
-copy-all-aside-spec =
+pub copy_all_aside_spec : {M : Type 1} → statement M
+copy_all_aside_spec =
     tie.close
     (tie.spec
     invariant-loop

@@ -9,59 +9,57 @@ use native.Mathlib.Omega.{arith}
 use Rattle.set_order.proofs.place_ids.Statement.{statement}
 use Rattle.set_order.proofs.place_ids.Tie as tie
 
-abbrev invariant-loop : tie.invariant-loop
+abbrev invariant-loop : tie.invariant-loop-j
 invariant-loop w₀ n j₀ w j = (j ≤ n) × (length w ≡ length w₀) × IdsPlaced w₀ j w
 
-abbrev decreases-loop : tie.decreases-loop
+abbrev decreases-loop : tie.decreases-loop-j
 decreases-loop w₀ n j₀ w j = n - j
 
-loop-holds : tie.Need-loop-init invariant-loop decreases-loop
-loop-holds c = let g = c.before.args in (omega arith, search rules, ids_none g.work.now)
+loop-holds : tie.Need-loop-j-init invariant-loop decreases-loop
+loop-holds c = let g = c.args in (omega arith, search rules, ids_none g.work.now)
 
-id-at-requires : tie.Need-id-at-requires invariant-loop decreases-loop
+id-at-requires : tie.Need-id_at-id-requires invariant-loop decreases-loop
 id-at-requires c κs =
-    let b = c.before.before.before.before in
-    let l = c.before.before.loop in
-    (ids_kept b.args.n l.invariant.2 b.requires.1 (omega arith), omega arith)
+    let l = c.loop-j in
+    (ids_kept c.args.n l.invariant.2 c.requires.1 (omega arith), omega arith)
 
-cast-work : tie.Need-overflow-cast-work invariant-loop decreases-loop
-cast-work c = let k = c.before.before.before.before.before.requires.1.room in omega arith
+cast-work : tie.Need-overflow_cast-work invariant-loop decreases-loop
+cast-work c = let k = c.requires.1.room in omega arith
 
-add-work : tie.Need-overflow-add-work invariant-loop decreases-loop
-add-work c = let k = c.before.before.before.before.before.requires.1.room in omega (arith, c.id-at.ensures)
+add-work : tie.Need-overflow_add-work invariant-loop decreases-loop
+add-work c = let k = c.requires.1.room in omega (arith, c.id_at-id.ensures)
 
-mul-work : tie.Need-overflow-mul-work invariant-loop decreases-loop
-mul-work c = let k = c.before.before.before.before.before.requires.1.room in omega (arith, c.id-at.ensures)
+mul-work : tie.Need-offset_bounds-work-id invariant-loop decreases-loop
+mul-work c = let k = c.requires.1.room in omega (arith, c.id_at-id.ensures)
 
-slice-write-work : tie.Need-slice-write-work invariant-loop decreases-loop
-slice-write-work c = let k = c.before.before.before.before.before.requires.1.room in omega (arith, c.id-at.ensures)
+slice-write-work : tie.Need-bounds-work-id invariant-loop decreases-loop
+slice-write-work c = let k = c.requires.1.room in omega (arith, c.id_at-id.ensures)
 
-add-j : tie.Need-overflow-add-j invariant-loop decreases-loop
+add-j : tie.Need-overflow_add-j invariant-loop decreases-loop
 add-j c = search rules
 
-loop-less : tie.Need-loop-smaller invariant-loop decreases-loop
+loop-less : tie.Need-loop-j-smaller invariant-loop decreases-loop
 loop-less c = search rules
 
-loop-again : tie.Need-loop-preserved invariant-loop decreases-loop
+loop-again : tie.Need-loop-j-preserved invariant-loop decreases-loop
 loop-again c =
-    let b = c.before.before.before.before.before in
-    let l = c.before.before.before.loop in
-    let p = c.id-at in
-    let r = ids_more b.args.n l.invariant.2 b.requires.1 (omega arith) b.requires.0 p.result p.ensures.0 in
+    let l = c.loop-j in
+    let p = c.id_at-id in
+    let r = ids_more c.args.n l.invariant.2 c.requires.1 (omega arith) c.requires.0 p.result p.ensures.0 in
     (omega arith, r.outside.long, r)
 
-same_length : tie.Need-same-length invariant-loop decreases-loop
+same_length : tie.Need-shape_of-work invariant-loop decreases-loop
 same_length c = search rules
 
 returns : tie.Need-returns invariant-loop decreases-loop
 returns c =
-    let g = c.before.before.before.args in
-    let l = c.before.loop in
+    let g = c.args in
+    let l = c.loop-j in
     let e : l.j ≡ g.n = omega arith in
     subst (λ (z : ℕ). IdsPlaced g.work.now z l.work) e l.invariant.2
 
-pub place-ids-spec : {M : Type 1} → statement M
-place-ids-spec =
+pub place_ids_spec : {M : Type 1} → statement M
+place_ids_spec =
     tie.close
     (tie.spec
     invariant-loop
