@@ -12,48 +12,48 @@ use Rattle.report_bytes.specs.BytesStored.{joined, joined_none, joined_length}
 use Rattle.report_bytes.proofs.members_length.Statement.{statement}
 use Rattle.report_bytes.proofs.members_length.Tie as tie
 
-abbrev invariant-loop : tie.invariant-loop
+abbrev invariant-loop : tie.invariant-loop-place
 invariant-loop w n total₀ place₀ total place =
     (place ≤ n) × (total ≡ 2 + length (joined (member_bytes_at w) place)) × (total ≤ 2 + 13 * place)
 
-abbrev decreases-loop : tie.decreases-loop
+abbrev decreases-loop : tie.decreases-loop-place
 decreases-loop w n total₀ place₀ total place = n - place
 
-loop-holds : tie.Need-loop-init invariant-loop decreases-loop
+loop-holds : tie.Need-loop-place-init invariant-loop decreases-loop
 loop-holds c = (search rules, omega (arith, ap length (joined_none (member_bytes_at c.args.work.now))), search rules)
 
-mul-total : tie.Need-overflow-mul-total invariant-loop decreases-loop
+mul-total : tie.Need-overflow_mul-total invariant-loop decreases-loop
 mul-total c = search rules
 
-add_total : tie.Need-overflow-add-total invariant-loop decreases-loop
+add_total : tie.Need-overflow_add-total invariant-loop decreases-loop
 add_total c = search rules
 
-mul-total-2 : tie.Need-overflow-mul-total-2 invariant-loop decreases-loop
+mul-total-2 : tie.Need-offset_bounds-work-place invariant-loop decreases-loop
 mul-total-2 c = search rules
 
-shared-slice-read-total : tie.Need-shared-slice-read-total invariant-loop decreases-loop
+shared-slice-read-total : tie.Need-bounds-work-place invariant-loop decreases-loop
 shared-slice-read-total c = search rules
 
-cast-total : tie.Need-overflow-cast-total invariant-loop decreases-loop
+cast-total : tie.Need-overflow_cast-total invariant-loop decreases-loop
 cast-total c = search rules
 
-add-total-2 : tie.Need-overflow-add-total-2 invariant-loop decreases-loop
+add-total-2 : tie.Need-overflow_add-total-in-loop-place invariant-loop decreases-loop
 add-total-2 c = search rules
 
-add-total-3 : tie.Need-overflow-add-total-3 invariant-loop decreases-loop
+add-total-3 : tie.Need-overflow_add-total-in-loop-place-2 invariant-loop decreases-loop
 add-total-3 c = search rules
 
-add-place : tie.Need-overflow-add-place invariant-loop decreases-loop
+add-place : tie.Need-overflow_add-place invariant-loop decreases-loop
 add-place c = search rules
 
-loop-less : tie.Need-loop-smaller invariant-loop decreases-loop
+loop-less : tie.Need-loop-place-smaller invariant-loop decreases-loop
 loop-less c = search rules
 
-loop-again : tie.Need-loop-preserved invariant-loop decreases-loop
+loop-again : tie.Need-loop-place-preserved invariant-loop decreases-loop
 loop-again c =
-    let w : List ℕ = c.before.before.before.args.work.now in
-    let i : ℕ = c.before.before.loop.place in
-    let p : PackedAt w i = c.before.before.before.requires.packed i (search rules) in (
+    let w : List ℕ = c.args.work.now in
+    let i : ℕ = c.loop-place.place in
+    let p : PackedAt w i = c.requires.packed i (search rules) in (
       search rules,
       omega (arith, joined_length (member_bytes_at w) i, member_length_lem w i p),
       omega (arith, packed_count p),
@@ -61,12 +61,12 @@ loop-again c =
 
 returns : tie.Need-returns invariant-loop decreases-loop
 returns c =
-    let args = c.before.before.args in
-    let e : c.before.loop.place ≡ args.n = omega arith in
+    let args = c.args in
+    let e : c.loop-place.place ≡ args.n = omega arith in
     omega (arith, ap (λ (i : ℕ). length (joined (member_bytes_at args.work.now) i)) e)
 
-pub members-length-spec : {M : Type 1} → statement M
-members-length-spec =
+pub members_length_spec : {M : Type 1} → statement M
+members_length_spec =
     tie.close
     (tie.spec
     invariant-loop

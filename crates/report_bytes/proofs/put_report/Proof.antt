@@ -10,65 +10,52 @@ use Rattle.report_bytes.proofs.put_report.Statement.{statement}
 use Rattle.report_bytes.proofs.put_report.Tie as tie
 
 -- ---- the stages of the function, each from a later one
-abbrev start-of-put-members : tie.After-put-members → tie.Start
-start-of-put-members s = s.before.before.before.before
-
-abbrev put-members-of-put-trail : tie.After-put-trail → tie.After-put-members
-put-members-of-put-trail s = s.before.before.before.before
-
 -- ---- what is left to show
-put-members-requires : tie.Need-put-members-requires
+put-members-requires : tie.Need-put_members-at-requires
 put-members-requires c κs =
-    let start = c.before.before.before in
-    let w : List ℕ = start.args.work.now in
-    (start.requires.0.members, omega (arith, start.requires.1, length-append (members_part w start.args.n) (trail_part w start.args.k)))
+    let w : List ℕ = c.args.work.now in
+    (c.requires.0.members, omega (arith, c.requires.1, length-append (members_part w c.args.n) (trail_part w c.args.k)))
 
-sub-put-trail : tie.Need-overflow-sub-put-trail
+sub-put-trail : tie.Need-slice_bounds-put_trail-count
 sub-put-trail c =
-    let start = c.before.before.before.before.before.before in
-    let w : List ℕ = start.args.work.now in
-    let members = c.before.before.put-members in
-    let room = lent_room start.args.out.now (members_part w start.args.n) members.new.1.1.0
-    (trail_part w start.args.k) members.result members.ensures start.requires.1 in
+    let w : List ℕ = c.args.work.now in
+    let members = c.put_members-at in
+    let room = lent_room c.args.out.now (members_part w c.args.n) members.new.out
+    (trail_part w c.args.k) members.result members.ensures c.requires.1 in
     omega arith
 
-part-put-trail-start : tie.Need-slice-bounds-put-trail-start
+part-put-trail-start : tie.Need-slice_bounds-put_trail-start
 part-put-trail-start c =
-    let start = c.before.before.before.before.before.before in
-    let w : List ℕ = start.args.work.now in
-    let members = c.before.before.put-members in
-    let room = lent_room start.args.out.now (members_part w start.args.n) members.new.1.1.0
-    (trail_part w start.args.k) members.result members.ensures start.requires.1 in
+    let w : List ℕ = c.args.work.now in
+    let members = c.put_members-at in
+    let room = lent_room c.args.out.now (members_part w c.args.n) members.new.out
+    (trail_part w c.args.k) members.result members.ensures c.requires.1 in
     omega arith
 
-part-put-trail-end : tie.Need-slice-bounds-put-trail-end
+part-put-trail-end : tie.Need-slice_bounds-put_trail-end
 part-put-trail-end c = search rules
 
-put-trail-requires : tie.Need-put-trail-requires
+put-trail-requires : tie.Need-put_trail-requires
 put-trail-requires c κs =
-    let start = c.before.before.before.before.before.before.before in
-    let w : List ℕ = start.args.work.now in
-    let members = c.before.before.before.put-members in
-    let room = lent_room start.args.out.now (members_part w start.args.n) members.new.1.1.0
-    (trail_part w start.args.k) members.result members.ensures start.requires.1 in
-    (start.requires.0.steps, room.1)
+    let w : List ℕ = c.args.work.now in
+    let members = c.put_members-at in
+    let room = lent_room c.args.out.now (members_part w c.args.n) members.new.out
+    (trail_part w c.args.k) members.result members.ensures c.requires.1 in
+    (c.requires.0.steps, room.1)
 
-same_length : tie.Need-same-length
+same_length : tie.Need-shape_of-out
 same_length c = search rules
 
 returns : tie.Need-returns
 returns c =
-    let at-put-trail = c.before.before in
-    let at-put-members = put-members-of-put-trail at-put-trail in
-    let start = start-of-put-members at-put-members in
-    let w : List ℕ = start.args.work.now in
-    let members = at-put-members.put-members in
-    let trail = at-put-trail.put-trail in
-    lent_after start.args.out.now (members_part w start.args.n) members.last.1.1.0 (trail_part w start.args.k)
-    trail.new.1.1.0 members.result members.ensures start.pre.1 trail.ensures
+    let w : List ℕ = c.args.work.now in
+    let members = c.put_members-at in
+    let trail = c.put_trail in
+    lent_after c.args.out.now (members_part w c.args.n) members.new.out (trail_part w c.args.k)
+    trail.new.out members.result members.ensures c.requires.1 trail.ensures
 
-pub put-report-spec : {M : Type 1} → statement M
-put-report-spec =
+pub put_report_spec : {M : Type 1} → statement M
+put_report_spec =
     tie.close
     (tie.spec
     put-members-requires
