@@ -2,7 +2,7 @@
 #![tactic(auto)]
 
 // How many members, moves of all members together, and threads of a member there may be.
-#[derive(Drop)]
+#[derive(Clone, Copy)]
 pub struct Caps {
     pub members: usize,
     pub moves: usize,
@@ -10,7 +10,7 @@ pub struct Caps {
 }
 
 // How many members there are, how many moves, and a place in the order below which all members are explored.
-#[derive(Drop)]
+#[derive(Clone, Copy)]
 pub struct Running {
     pub members: usize,
     pub moves: usize,
