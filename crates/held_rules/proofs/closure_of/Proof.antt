@@ -11,18 +11,18 @@ use Rattle.held_rules.proofs.closure_of.Tie as tie
 wide-requires : tie.Need-wide-requires
 wide-requires c κs = search rules
 
-close-requires : tie.Need-close-requires
+close-requires : tie.Need-close-t-requires
 close-requires c κs = search rules
 
-cast-result : tie.Need-overflow-cast-result
+cast-result : tie.Need-overflow_cast-result
 cast-result c = search rules
 
 returns : tie.Need-returns
 returns c =
-    let w = c.before.before.before.args.work.now in
-    let e : c.close.result ≡ closure (held_rules w) c.before.before.before.args.s =
-    c.close.ensures ∙ ap (closure (held_rules w)) c.before.wide.ensures.0 in
+    let w = c.args.work.now in
+    let e : c.close-t.result ≡ closure (held_rules w) c.args.s =
+    c.close-t.ensures ∙ ap (closure (held_rules w)) c.wide.ensures.0 in
     closure_read _ _ _ (ap (λ (x : ℕ). x % 65536) e)
 
-pub closure-of-spec : {M : Type 1} → statement M
-closure-of-spec = tie.close (tie.spec wide-requires close-requires cast-result returns)
+pub closure_of_spec : {M : Type 1} → statement M
+closure_of_spec = tie.close (tie.spec wide-requires close-requires cast-result returns)

@@ -11,58 +11,58 @@ use mathlib.Core.Path.{◌≡◌, refl, sym, ap, ◌∙◌}
 use Rattle.held_rules.proofs.concluded.Statement.{statement}
 use Rattle.held_rules.proofs.concluded.Tie as tie
 
-abbrev invariant-loop : tie.invariant-loop
+abbrev invariant-loop : tie.invariant-loop-i
 invariant-loop work n all₀ i₀ all i = (i ≤ n) × (n ≤ max_rules) × (all ≡ conclusions (tabulate (held_rule work) i))
 
-abbrev decreases-loop : tie.decreases-loop
+abbrev decreases-loop : tie.decreases-loop-i
 decreases-loop work n all₀ i₀ all i = n - i
 
 -- src/lib.rt:107:9
-held-count-requires : tie.Need-held-count-requires invariant-loop decreases-loop
+held-count-requires : tie.Need-held_count-n-requires invariant-loop decreases-loop
 held-count-requires c κs = search rules
 
 -- src/lib.rt:110:5
-loop-holds : tie.Need-loop-init invariant-loop decreases-loop
+loop-holds : tie.Need-loop-i-init invariant-loop decreases-loop
 loop-holds c =
-    let w = c.before.before.args.work.now in
-    (omega arith, omega (arith, c.held_count_lem.ensures, count_fits w), united_none w)
+    let w = c.args.work.now in
+    (omega arith, omega (arith, c.held_count-n.ensures, count_fits w), united_none w)
 
 -- src/lib.rt:111:26
-add-all : tie.Need-overflow-add-all invariant-loop decreases-loop
+add-all : tie.Need-overflow_add-all invariant-loop decreases-loop
 add-all c = search rules
 
 -- src/lib.rt:111:21
-mul-all : tie.Need-overflow-mul-all invariant-loop decreases-loop
+mul-all : tie.Need-offset_bounds-work-i invariant-loop decreases-loop
 mul-all c = search rules
 
 -- src/lib.rt:111:21
-shared-slice-read-all : tie.Need-shared-slice-read-all invariant-loop decreases-loop
+shared-slice-read-all : tie.Need-bounds-work-i invariant-loop decreases-loop
 shared-slice-read-all c = search rules
 
 -- src/lib.rt:112:9
-add-i : tie.Need-overflow-add-i invariant-loop decreases-loop
+add-i : tie.Need-overflow_add-i invariant-loop decreases-loop
 add-i c = search rules
 
 -- src/lib.rt:110:5
-loop-less : tie.Need-loop-smaller invariant-loop decreases-loop
+loop-less : tie.Need-loop-i-smaller invariant-loop decreases-loop
 loop-less c = search rules
 
 -- src/lib.rt:110:5
-loop-again : tie.Need-loop-preserved invariant-loop decreases-loop
+loop-again : tie.Need-loop-i-preserved invariant-loop decreases-loop
 loop-again c =
-    let l = c.before.before.loop in
-    (omega arith, l.invariant.1, united_next c.before.before.before.before.before.args.work.now l.i l.all l.invariant.2)
+    let l = c.loop-i in
+    (omega arith, l.invariant.1, united_next c.args.work.now l.i l.all l.invariant.2)
 
 -- src/lib.rt:103:1
 returns : tie.Need-returns invariant-loop decreases-loop
 returns c =
-    let l = c.before.loop in
-    let w = c.before.before.before.before.args.work.now in
-    let e : l.i ≡ held_count w = omega (arith, l.invariant.0, c.loop-test.false, c.before.before.held_count_lem.ensures) in
+    let l = c.loop-i in
+    let w = c.args.work.now in
+    let e : l.i ≡ held_count w = omega (arith, l.invariant.0, c.loop-i-test.false, c.held_count-n.ensures) in
     l.invariant.2 ∙ ap (λ (k : ℕ). conclusions (tabulate (held_rule w) k)) e
 
-pub concluded-spec : {M : Type 1} → statement M
-concluded-spec =
+pub concluded_spec : {M : Type 1} → statement M
+concluded_spec =
     tie.close
     (tie.spec
     invariant-loop

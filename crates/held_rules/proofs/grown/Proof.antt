@@ -9,49 +9,49 @@ use Prim.Native.Nat.{◌-◌, ◌<◌}
 use Rattle.held_rules.proofs.grown.Statement.{statement}
 use Rattle.held_rules.proofs.grown.Tie as tie
 
-abbrev invariant-loop : tie.invariant-loop
+abbrev invariant-loop : tie.invariant-loop-i
 invariant-loop work n set t₀ i₀ t i = GrownTo work set i t
 
-abbrev decreases-loop : tie.decreases-loop
+abbrev decreases-loop : tie.decreases-loop-i
 decreases-loop work n set t₀ i₀ t i = n - i
 
-loop-holds : tie.Need-loop-init invariant-loop decreases-loop
+loop-holds : tie.Need-loop-i-init invariant-loop decreases-loop
 loop-holds c = grown_none c.args.work.now c.args.set
 
-mul-premise : tie.Need-overflow-mul-premise invariant-loop decreases-loop
+mul-premise : tie.Need-offset_bounds-work-i invariant-loop decreases-loop
 mul-premise c = search rules
 
-shared-slice-read-premise : tie.Need-shared-slice-read-premise invariant-loop decreases-loop
+shared-slice-read-premise : tie.Need-bounds-work-i invariant-loop decreases-loop
 shared-slice-read-premise c = search rules
 
-add-more : tie.Need-overflow-add-more invariant-loop decreases-loop
+add-more : tie.Need-overflow_add-more invariant-loop decreases-loop
 add-more c = search rules
 
-mul-more : tie.Need-overflow-mul-more invariant-loop decreases-loop
+mul-more : tie.Need-offset_bounds-work-i-in-loop-i invariant-loop decreases-loop
 mul-more c = search rules
 
-shared-slice-read-more : tie.Need-shared-slice-read-more invariant-loop decreases-loop
+shared-slice-read-more : tie.Need-bounds-work-i-in-loop-i invariant-loop decreases-loop
 shared-slice-read-more c = search rules
 
-add-i : tie.Need-overflow-add-i invariant-loop decreases-loop
+add-i : tie.Need-overflow_add-i invariant-loop decreases-loop
 add-i c = search rules
 
-loop-less : tie.Need-loop-smaller invariant-loop decreases-loop
+loop-less : tie.Need-loop-i-smaller invariant-loop decreases-loop
 loop-less c = search rules
 
-loop-again : tie.Need-loop-preserved invariant-loop decreases-loop
+loop-again : tie.Need-loop-i-preserved invariant-loop decreases-loop
 loop-again c =
-    let l = c.before.before.before.before.before.loop in
-    let on : l.i < held_count c.before.before.before.before.before.before.args.work.now =
-    omega (arith, c.before.before.before.before.loop-test.true, c.before.before.before.before.before.before.requires.1) in
-    ⊎_elim (λ w. grown_idle l.invariant on c.before.if1.more w.1 w.0.taken) (λ w. rw w.1 (grown_fired l.invariant on w.0.left))
-    c.before.if1.branch
+    let l = c.loop-i in
+    let on : l.i < held_count c.args.work.now =
+    omega (arith, c.loop-i-test.true, c.requires.1) in
+    ⊎_elim (λ w. grown_idle l.invariant on c.if-premise-set.more w.more-is w.if-premise-set.true) (λ w. rw w.more-is (grown_fired l.invariant on w.if-premise-set.false))
+    c.if-premise-set.branch-raw
 
 returns : tie.Need-returns invariant-loop decreases-loop
-returns c = grown_all c.before.loop.invariant (omega (arith, c.loop-test.false, c.before.before.requires.1))
+returns c = grown_all c.loop-i.invariant (omega (arith, c.loop-i-test.false, c.requires.1))
 
-pub grown-spec : {M : Type 1} → statement M
-grown-spec =
+pub grown_spec : {M : Type 1} → statement M
+grown_spec =
     tie.close
     (tie.spec
     invariant-loop

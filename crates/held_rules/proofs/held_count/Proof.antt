@@ -8,25 +8,25 @@ use Rattle.held_rules.proofs.held_count.Statement.{statement}
 use Rattle.held_rules.proofs.held_count.Tie as tie
 
 -- src/lib.rt:49:8
-shared-slice-read-if1 : tie.Need-shared-slice-read-if1
+shared-slice-read-if1 : tie.Need-bounds-work-0
 shared-slice-read-if1 c = search rules
 
 -- src/lib.rt:50:9
-returns : tie.Need-returns
-returns c = sym (count_none c.before.before.args.work.now c.if1.true)
+returns : tie.Need-returns-then-work-eq-NO_PREMISE
+returns c = sym (count_none c.args.work.now c.if-work-eq-NO_PREMISE.true)
 
 -- src/lib.rt:52:8
-shared-slice-read-if2 : tie.Need-shared-slice-read-if2
+shared-slice-read-if2 : tie.Need-bounds-work-8
 shared-slice-read-if2 c = search rules
 
 -- src/lib.rt:53:9
-returns-2 : tie.Need-returns-2
-returns-2 c = sym (count_few c.before.before.before.before.args.work.now c.before.before.if1.false c.if2.true)
+returns-2 : tie.Need-returns-then-work-eq-NO_PREMISE-2
+returns-2 c = sym (count_few c.args.work.now c.if-work-eq-NO_PREMISE.false c.if-work-eq-NO_PREMISE-2.true)
 
 -- src/lib.rt:45:1
-returns-3 : tie.Need-returns-3
-returns-3 c = sym (count_many c.before.before.before.before.args.work.now c.before.before.if1.false c.if2.false)
+returns-3 : tie.Need-returns
+returns-3 c = sym (count_many c.args.work.now c.if-work-eq-NO_PREMISE.false c.if-work-eq-NO_PREMISE-2.false)
 
-pub held-count-spec : {M : Type 1} → statement M
-held-count-spec =
+pub held_count_spec : {M : Type 1} → statement M
+held_count_spec =
     tie.close (tie.spec shared-slice-read-if1 returns shared-slice-read-if2 returns-2 returns-3)

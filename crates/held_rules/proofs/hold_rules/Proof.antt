@@ -11,31 +11,31 @@ use Rattle.held_rules.proofs.hold_rules.Statement.{statement}
 use Rattle.held_rules.proofs.hold_rules.Tie as tie
 
 -- src/lib.rt:104:5
-put-rules-requires : tie.Need-put-rules-requires
+put-rules-requires : tie.Need-put_rules-requires
 put-rules-requires c κs = search rules
 
 -- src/lib.rt:105:9
-close-requires : tie.Need-close-requires
+close-requires : tie.Need-close-least-requires
 close-requires c κs = search rules
 
 -- src/lib.rt:106:5
-slice-write-work : tie.Need-slice-write-work
+slice-write-work : tie.Need-bounds-work-64
 slice-write-work c = search rules
 
 -- src/lib.rt:100:1
-same_length : tie.Need-same-length
+same_length : tie.Need-shape_of-work
 same_length c = search rules
 
 -- src/lib.rt:100:1
 returns : tie.Need-returns
 returns c =
-    let put = c.before.before.before.before.put-rules in
-    let long : rules_end ≤ length put.new.1.1.0 = omega (arith, put.ensures.1.long, c.before.before.before.before.before.before.before.requires.1) in (
-      least_held c.close.result long put.ensures.0 c.close.ensures,
+    let put = c.put_rules in
+    let long : rules_end ≤ length put.new.work = omega (arith, put.ensures.1.long, c.requires.1) in (
+      least_held c.close-least.result long put.ensures.0 c.close-least.ensures,
       outside_again (outside_wider put.ensures.1 0 rules_end (omega arith) (omega arith))
-          (outside_set 0 rules_end put.new.1.1.0 least_at c.close.result (omega arith) (omega arith)),
+          (outside_set 0 rules_end put.new.work least_at c.close-least.result (omega arith) (omega arith)),
     )
 
-pub hold-rules-spec : {M : Type 1} → statement M
-hold-rules-spec =
+pub hold_rules_spec : {M : Type 1} → statement M
+hold_rules_spec =
     tie.close (tie.spec put-rules-requires close-requires slice-write-work same_length returns)

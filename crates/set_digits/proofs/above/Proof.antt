@@ -15,15 +15,15 @@ table =
     ∷ 4294901760 ∷ 2863267840 ∷ 3435921408 ∷ 2290614272 ∷ 4042260480 ∷ 2694840320 ∷ 3233808384 ∷ 2155872256
     ∷ 4278190080 ∷ 2852126720 ∷ 3422552064 ∷ 2281701376 ∷ 4026531840 ∷ 2684354560 ∷ 3221225472 ∷ 2147483648 ∷ []
 
-mul-result : tie.Need-overflow-mul-result
+mul-result : tie.Need-offset_bounds-b
 mul-result c = search rules
 
-array-read-result : tie.Need-array-read-result
+array-read-result : tie.Need-bounds-b
 array-read-result c = search rules
 
 returns : tie.Need-returns
 unfolding table digit
 returns c = right_entry table refl c.args.b (search rules)
 
-pub above-spec : {M : Type 1} → statement M
-above-spec = tie.close (tie.spec mul-result array-read-result returns)
+pub above_spec : {M : Type 1} → statement M
+above_spec = tie.close (tie.spec mul-result array-read-result returns)

@@ -10,56 +10,56 @@ use Rattle.set_digits.specs.MarkedCounts.{counted_next}
 use Rattle.set_digits.proofs.count_marked.Statement.{statement}
 use Rattle.set_digits.proofs.count_marked.Tie as tie
 
-abbrev invariant-loop : tie.invariant-loop
+abbrev invariant-loop : tie.invariant-loop-w
 invariant-loop work at words n₀ w₀ n w = (w ≤ words) × (n ≤ 32 * w) × (n ≡ length (marked_sets work at w))
 
-abbrev decreases-loop : tie.decreases-loop
+abbrev decreases-loop : tie.decreases-loop-w
 decreases-loop work at words n₀ w₀ n w = words - w
 
-loop-holds : tie.Need-loop-init invariant-loop decreases-loop
+loop-holds : tie.Need-loop-w-init invariant-loop decreases-loop
 loop-holds c = (search rules, search rules, refl)
 
-add-n : tie.Need-overflow-add-n invariant-loop decreases-loop
+add-n : tie.Need-overflow_add-n invariant-loop decreases-loop
 add-n c = search rules
 
-mul-n : tie.Need-overflow-mul-n invariant-loop decreases-loop
+mul-n : tie.Need-offset_bounds-work-at invariant-loop decreases-loop
 mul-n c = search rules
 
-shared-slice-read-n : tie.Need-shared-slice-read-n invariant-loop decreases-loop
+shared-slice-read-n : tie.Need-bounds-work-at invariant-loop decreases-loop
 shared-slice-read-n c = search rules
 
-add-n-2 : tie.Need-overflow-add-n-2 invariant-loop decreases-loop
+add-n-2 : tie.Need-overflow_add-n-in-loop-w invariant-loop decreases-loop
 add-n-2 c =
-    let i = c.before.before.before.args.at + c.before.before.loop.w in
-    let x = get_or c.before.before.before.args.work.now i 0 in
-    omega (arith, ones-le 32 x (c.shared-slice-known.given i).fits)
+    let i = c.args.at + c.loop-w.w in
+    let x = get_or c.args.work.now i 0 in
+    omega (arith, ones-le 32 x (c.shared_slice_known-1.given i).fits)
 
-add-w : tie.Need-overflow-add-w invariant-loop decreases-loop
+add-w : tie.Need-overflow_add-w invariant-loop decreases-loop
 add-w c = search rules
 
-loop-less : tie.Need-loop-smaller invariant-loop decreases-loop
+loop-less : tie.Need-loop-w-smaller invariant-loop decreases-loop
 loop-less c = search rules
 
-loop-again : tie.Need-loop-preserved invariant-loop decreases-loop
+loop-again : tie.Need-loop-w-preserved invariant-loop decreases-loop
 loop-again c =
-    let l = c.before.before.loop in
-    let b = c.before.before.before.args in
+    let l = c.loop-w in
+    let b = c.args in
     let x = get_or b.work.now (b.at + l.w) 0 in
-    let fits = c.shared-slice-known.given (b.at + l.w) in
+    let fits = c.shared_slice_known-1.given (b.at + l.w) in
     (search rules, omega (arith, ones-le 32 x fits.fits), omega (arith, counted_next b.work.now b.at l.w fits.fits))
 
-cast-result : tie.Need-overflow-cast-result invariant-loop decreases-loop
+cast-result : tie.Need-overflow_cast-result invariant-loop decreases-loop
 cast-result c = search rules
 
 returns : tie.Need-returns invariant-loop decreases-loop
 returns c =
-    let l = c.before.loop in
-    let b = c.before.before.args in
+    let l = c.loop-w in
+    let b = c.args in
     let e : l.w ≡ b.words = omega arith in
     l.invariant.2 ∙ ap (λ (k : ℕ). length (marked_sets b.work.now b.at k)) e
 
-pub count-marked-spec : {M : Type 1} → statement M
-count-marked-spec =
+pub count_marked_spec : {M : Type 1} → statement M
+count_marked_spec =
     tie.close
     (tie.spec
     invariant-loop

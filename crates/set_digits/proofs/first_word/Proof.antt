@@ -22,31 +22,31 @@ sets_fit facts h =
 power-fits : (facts : ℕ) → facts < 5 → 1 * 2 ^ (1 * 2 ^ facts % 2 ^ 32) % 2 ^ 32 ≡ 2 ^ (1 * 2 ^ facts % 2 ^ 32)
 power-fits facts h = one_shifted (1 * 2 ^ facts % 2 ^ 32) 32 (sets_fit facts h)
 
-shl-sets : tie.Need-overflow-shl-sets
+shl-sets : tie.Need-overflow_shl-sets
 shl-sets c = search rules
 
-shl-result : tie.Need-overflow-shl-result
-shl-result c = omega (arith, sets_fit c.before.args.facts c.if1.true)
+shl-result : tie.Need-overflow_shl-result
+shl-result c = omega (arith, sets_fit c.args.facts c.if-facts-lt5.true)
 
-sub-result : tie.Need-overflow-sub-result
+sub-result : tie.Need-overflow_sub-result
 sub-result c =
-    let n = c.before.args.facts in
-    omega (arith, power-fits n c.if1.true, pow_pos (1 * 2 ^ n % 2 ^ 32))
+    let n = c.args.facts in
+    omega (arith, power-fits n c.if-facts-lt5.true, pow_pos (1 * 2 ^ n % 2 ^ 32))
 
-returns : tie.Need-returns
+returns : tie.Need-returns-then-facts-lt5
 returns c =
-    let n = c.before.args.facts in
+    let n = c.args.facts in
     record {
       digits = λ p h.
-          ap (λ (x : ℕ). digit (x - 1) p) (power-fits n c.if1.true) ∙ digit_ones (1 * 2 ^ n % 2 ^ 32) p
+          ap (λ (x : ℕ). digit (x - 1) p) (power-fits n c.if-facts-lt5.true) ∙ digit_ones (1 * 2 ^ n % 2 ^ 32) p
           ∙ ap (λ (x : ℕ). bit (ltb p x)) (one_shifted n 32 (omega arith));
     }
 
-returns-2 : tie.Need-returns-2
+returns-2 : tie.Need-returns
 returns-2 c =
-    let n = c.before.args.facts in
+    let n = c.args.facts in
     let many : 2 ^ 5 ≤ 2 ^ n = pow_mono {i = 5} {j = n} (omega arith) in
     record { digits = λ p h. digit_ones 32 p ∙ rw (lt-ltb p 32 h, lt-ltb p (2 ^ n) (omega arith)) }
 
-pub first-word-spec : {M : Type 1} → statement M
-first-word-spec = tie.close (tie.spec shl-sets shl-result sub-result returns returns-2)
+pub first_word_spec : {M : Type 1} → statement M
+first_word_spec = tie.close (tie.spec shl-sets shl-result sub-result returns returns-2)

@@ -9,45 +9,45 @@ use Rattle.set_digits.specs.MarkedLaws.{none_next}
 use Rattle.set_digits.proofs.none_marked.Statement.{statement}
 use Rattle.set_digits.proofs.none_marked.Tie as tie
 
-abbrev invariant-loop : tie.invariant-loop
+abbrev invariant-loop : tie.invariant-loop-w
 invariant-loop work at words x₀ w₀ x w = (w ≤ words) × (eqb x 0 ≡ none_marked work at w)
 
-abbrev decreases-loop : tie.decreases-loop
+abbrev decreases-loop : tie.decreases-loop-w
 decreases-loop work at words x₀ w₀ x w = words - w
 
-loop-holds : tie.Need-loop-init invariant-loop decreases-loop
+loop-holds : tie.Need-loop-w-init invariant-loop decreases-loop
 loop-holds c = (search rules, refl)
 
-add-x : tie.Need-overflow-add-x invariant-loop decreases-loop
+add-x : tie.Need-overflow_add-x invariant-loop decreases-loop
 add-x c = search rules
 
-mul-x : tie.Need-overflow-mul-x invariant-loop decreases-loop
+mul-x : tie.Need-offset_bounds-work-at invariant-loop decreases-loop
 mul-x c = search rules
 
-shared-slice-read-x : tie.Need-shared-slice-read-x invariant-loop decreases-loop
+shared-slice-read-x : tie.Need-bounds-work-at invariant-loop decreases-loop
 shared-slice-read-x c = search rules
 
-add-w : tie.Need-overflow-add-w invariant-loop decreases-loop
+add-w : tie.Need-overflow_add-w invariant-loop decreases-loop
 add-w c = search rules
 
-loop-less : tie.Need-loop-smaller invariant-loop decreases-loop
+loop-less : tie.Need-loop-w-smaller invariant-loop decreases-loop
 loop-less c = search rules
 
-loop-again : tie.Need-loop-preserved invariant-loop decreases-loop
+loop-again : tie.Need-loop-w-preserved invariant-loop decreases-loop
 loop-again c =
-    let l = c.before.before.loop in
-    let b = c.before.before.before.args in
+    let l = c.loop-w in
+    let b = c.args in
     (search rules, none_next b.work.now b.at l.w l.x (omega arith) l.invariant.1)
 
 returns : tie.Need-returns invariant-loop decreases-loop
 returns c =
-    let l = c.before.loop in
-    let b = c.before.before.args in
+    let l = c.loop-w in
+    let b = c.args in
     let e : l.w ≡ b.words = omega arith in
     l.invariant.1 ∙ ap (λ (k : ℕ). none_marked b.work.now b.at k) e
 
-pub none-marked-spec : {M : Type 1} → statement M
-none-marked-spec =
+pub none_marked_spec : {M : Type 1} → statement M
+none_marked_spec =
     tie.close
     (tie.spec
     invariant-loop

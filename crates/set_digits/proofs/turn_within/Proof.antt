@@ -13,76 +13,76 @@ use Rattle.set_digits.specs.FilledWords.{Filled, filled_none, filled_next, fille
 use Rattle.set_digits.proofs.turn_within.Statement.{statement}
 use Rattle.set_digits.proofs.turn_within.Tie as tie
 
-abbrev invariant-loop : tie.invariant-loop
+abbrev invariant-loop : tie.invariant-loop-w
 invariant-loop work₀ from to words w₀ work w = (w ≤ words) × Filled to w work₀ work (λ i. outside (get_or work₀ (to + i) 0) (get_or work₀ (from + i) 0))
 
-abbrev decreases-loop : tie.decreases-loop
+abbrev decreases-loop : tie.decreases-loop-w
 decreases-loop work₀ from to words w₀ work w = words - w
 
-loop-holds : tie.Need-loop-init invariant-loop decreases-loop
+loop-holds : tie.Need-loop-w-init invariant-loop decreases-loop
 loop-holds c =
-    let b = c.before.args in
+    let b = c.args in
     (search rules, filled_none b.to b.work.now _)
 
-add-without : tie.Need-overflow-add-without invariant-loop decreases-loop
+add-without : tie.Need-overflow_add-from invariant-loop decreases-loop
 add-without c = search rules
 
-mul-without : tie.Need-overflow-mul-without invariant-loop decreases-loop
+mul-without : tie.Need-offset_bounds-work-from invariant-loop decreases-loop
 mul-without c = search rules
 
-slice-read-without : tie.Need-slice-read-without invariant-loop decreases-loop
-slice-read-without c = omega (arith, c.before.before.loop.invariant.1.same.long)
+slice-read-without : tie.Need-bounds-work-from invariant-loop decreases-loop
+slice-read-without c = omega (arith, c.loop-w.invariant.1.same.long)
 
-add-without-2 : tie.Need-overflow-add-without-2 invariant-loop decreases-loop
+add-without-2 : tie.Need-overflow_add-to invariant-loop decreases-loop
 add-without-2 c = search rules
 
-mul-without-2 : tie.Need-overflow-mul-without-2 invariant-loop decreases-loop
+mul-without-2 : tie.Need-offset_bounds-work-to invariant-loop decreases-loop
 mul-without-2 c = search rules
 
-slice-read-without-2 : tie.Need-slice-read-without-2 invariant-loop decreases-loop
-slice-read-without-2 c = omega (arith, c.before.before.before.loop.invariant.1.same.long)
+slice-read-without-2 : tie.Need-bounds-work-to invariant-loop decreases-loop
+slice-read-without-2 c = omega (arith, c.loop-w.invariant.1.same.long)
 
 without-requires : tie.Need-without-requires invariant-loop decreases-loop
 without-requires c κs = search rules
 
-add-work : tie.Need-overflow-add-work invariant-loop decreases-loop
+add-work : tie.Need-overflow_add-work invariant-loop decreases-loop
 add-work c = search rules
 
-mul-work : tie.Need-overflow-mul-work invariant-loop decreases-loop
+mul-work : tie.Need-offset_bounds-work-to-in-loop-w invariant-loop decreases-loop
 mul-work c = search rules
 
-slice-write-work : tie.Need-slice-write-work invariant-loop decreases-loop
-slice-write-work c = omega (arith, c.before.before.before.before.loop.invariant.1.same.long)
+slice-write-work : tie.Need-bounds-work-to-in-loop-w invariant-loop decreases-loop
+slice-write-work c = omega (arith, c.loop-w.invariant.1.same.long)
 
-add-w : tie.Need-overflow-add-w invariant-loop decreases-loop
+add-w : tie.Need-overflow_add-w invariant-loop decreases-loop
 add-w c = search rules
 
-loop-less : tie.Need-loop-smaller invariant-loop decreases-loop
+loop-less : tie.Need-loop-w-smaller invariant-loop decreases-loop
 loop-less c = search rules
 
-loop-again : tie.Need-loop-preserved invariant-loop decreases-loop
+loop-again : tie.Need-loop-w-preserved invariant-loop decreases-loop
 loop-again c =
-    let l = c.before.before.before.before.loop in
+    let l = c.loop-w in
     let f = l.invariant.1 in
-    let b = c.before.before.before.before.before.before.args in (
+    let b = c.args in (
       search rules,
       filled_next f c.without.result (omega arith)
           (c.without.ensures ∙ ap₂ outside (filled_later f l.w (omega arith)) (filled_before f (b.from + l.w) (omega arith))),
     )
 
-same_length : tie.Need-same-length invariant-loop decreases-loop
-same_length c = c.before.loop.invariant.1.same.long
+same_length : tie.Need-shape_of-work invariant-loop decreases-loop
+same_length c = c.loop-w.invariant.1.same.long
 
 returns : tie.Need-returns invariant-loop decreases-loop
 returns c =
-    let b = c.before.before.before.args in
+    let b = c.args in
     let v = b.work.now in
-    filled_marked c.before.loop.invariant.1 b.words (omega arith) (λ s. cond (eqb (mark v b.to s) 1) 0 (mark v b.from s))
+    filled_marked c.loop-w.invariant.1 b.words (omega arith) (λ s. cond (eqb (mark v b.to s) 1) 0 (mark v b.from s))
     (λ s h. digit_cleared (get_or v (b.to + s / 32) 0) (get_or v (b.from + s / 32) 0) (s % 32) (eqb (mark v b.to s) 1)
     (digit_bit (get_or v (b.to + s / 32) 0) (s % 32)))
 
-pub turn-within-spec : {M : Type 1} → statement M
-turn-within-spec =
+pub turn_within_spec : {M : Type 1} → statement M
+turn_within_spec =
     tie.close
     (tie.spec
     invariant-loop

@@ -5,11 +5,11 @@ use Rattle.search_laws.specs.OutsideLaws.{or_above}
 use Rattle.set_digits.proofs.without.Statement.{statement}
 use Rattle.set_digits.proofs.without.Tie as tie
 
-sub-result : tie.Need-overflow-sub-result
+sub-result : tie.Need-overflow_sub-result
 sub-result c = omega (arith, or_above c.args.y c.args.x)
 
 returns : tie.Need-returns
 returns c = search rules
 
-pub without-spec : {M : Type 1} → statement M
-without-spec = tie.close (tie.spec sub-result returns)
+pub without_spec : {M : Type 1} → statement M
+without_spec = tie.close (tie.spec sub-result returns)
