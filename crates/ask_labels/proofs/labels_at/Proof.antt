@@ -10,90 +10,66 @@ use Rattle.ask_labels.proofs.labels_at.Statement.{statement}
 use Rattle.ask_labels.proofs.labels_at.Tie as tie
 
 -- ---- the stages of the function, each from a later one
-abbrev start-of-missing : tie.After-missing → tie.Start
-start-of-missing s = s.before.before
-
-abbrev missing-of-entry-of : tie.After-entry-of → tie.After-missing
-missing-of-entry-of s = s.before.before
-
-abbrev entry-of-of-then1 : tie.Then1 → tie.After-entry-of
-entry-of-of-then1 s = s.before
-
-abbrev then1-of-number-at : tie.After-number-at → tie.Then1
-then1-of-number-at s = s.before.before
-
-abbrev entry-of-of-add-labels : tie.After-add-labels → tie.After-entry-of
-entry-of-of-add-labels s = s.before.before.before.before
-
 -- ---- what is left to show
-missing-requires : tie.Need-missing-requires
+missing-requires : tie.Need-missing-lacking-requires
 missing-requires c κs = search rules
 
-entry-of-requires : tie.Need-entry-of-requires
+entry-of-requires : tie.Need-entry_of-i-requires
 entry-of-requires c κs = search rules
 
-mul_at : tie.Need-overflow-mul-at
+mul_at : tie.Need-overflow_mul-at
 mul_at c = search rules
 
-add_at : tie.Need-overflow-add-at
+add_at : tie.Need-overflow_add-at
 add_at c = search rules
 
-add-number-at : tie.Need-overflow-add-number-at
+add-number-at : tie.Need-overflow_add-at-then-i-sets
 add-number-at c = search rules
 
-number-at-requires : tie.Need-number-at-requires
+number-at-requires : tie.Need-number_at-first-requires
 number-at-requires c κs = search rules
 
-add-number-at-2 : tie.Need-overflow-add-number-at-2
+add-number-at-2 : tie.Need-overflow_add-at-then-i-sets-2
 add-number-at-2 c = search rules
 
-number-at-requires-2 : tie.Need-number-at-requires-2
+number-at-requires-2 : tie.Need-number_at-end-requires
 number-at-requires-2 c κs = search rules
 
-same_length : tie.Need-same-length
+same_length : tie.Need-shape_of-work-then-i-sets
 same_length c = search rules
 
-returns : tie.Need-returns
+returns : tie.Need-returns-then-i-sets
 returns c =
-    let at-number-at = c.before.before in
-    let at-then1 = then1-of-number-at at-number-at in
-    let at-entry-of = entry-of-of-then1 at-then1 in
-    let at-missing = missing-of-entry-of at-entry-of in
-    let start = start-of-missing at-missing in
-    let x = start.args in
-    let lacking = at-missing.missing in
-    let entry = at-entry-of.entry_of in
-    let there = at-then1.if1.taken in
-    rw (at-number-at.number_at_lem.ensures, c.number-at2.ensures)
+    let x = c.args in
+    let lacking = c.missing-lacking in
+    let entry = c.entry_of-i in
+    let there = c.if-i-sets.true in
+    rw (c.number_at-first.ensures, c.number_at-end.ensures)
     (missing_answers x.c
-    (entry_answers x.work.now x.facts x.d (outside x.d x.c) x.shelf entry.result start.pre.1 there
+    (entry_answers x.work.now x.facts x.d (outside x.d x.c) x.shelf entry.result c.requires.1 there
     (entry.ensures.1 there ∙ lacking.ensures)))
 
-with-room-requires : tie.Need-with-room-requires
+with-room-requires : tie.Need-with_room-roomy-requires
 with-room-requires c κs = search rules
 
-add-labels-requires : tie.Need-add-labels-requires
+add-labels-requires : tie.Need-add_labels-requires
 add-labels-requires c κs =
-    let start = c.before.before.before.before.before.before.before in
-    let roomy = c.before.with-room.ensures in
-    (start.requires.0, shelved_kept start.requires.1 roomy, roomy.sets, roomy.used)
+    let roomy = c.with_room-roomy.ensures in
+    (c.requires.0, shelved_kept c.requires.1 roomy, roomy.sets, roomy.used)
 
-same-length-2 : tie.Need-same-length-2
+same-length-2 : tie.Need-shape_of-work
 same-length-2 c = search rules
 
-returns-2 : tie.Need-returns-2
+returns-2 : tie.Need-returns
 returns-2 c =
-    let at-add-labels = c.before.before in
-    let at-missing = missing-of-entry-of (entry-of-of-add-labels at-add-labels) in
-    let at_start = start-of-missing at-missing in
-    let x = at_start.args in
-    let found = at-add-labels.add-labels in
-    let lacking = at-missing.missing in
+    let x = c.args in
+    let found = c.add_labels in
+    let lacking = c.missing-lacking in
     missing_answers x.c
-    (subst (λ (m : ℕ). LabelsGiven x.work.now x.facts x.d m found.result found.new.0) lacking.ensures found.ensures)
+    (subst (λ (m : ℕ). LabelsGiven x.work.now x.facts x.d m found.result found.new.work) lacking.ensures found.ensures)
 
-pub labels-at-spec : {M : Type 1} → statement M
-labels-at-spec =
+pub labels_at_spec : {M : Type 1} → statement M
+labels_at_spec =
     tie.close
     (tie.spec
     missing-requires
