@@ -7,11 +7,11 @@ use Rattle.move_entry.proofs.lowest.Tie as tie
 lesser-requires : tie.Need-lesser-requires
 lesser-requires c κs = search rules
 
-returns : tie.Need-returns
-returns c = simp (eq-eqb _ _ c.if1.true)
+returns : tie.Need-returns-then-n-s
+returns c = simp (eq-eqb _ _ c.if-n-s.true)
 
-returns-2 : tie.Need-returns-2
-returns-2 c = simp (ne_eqb _ _ c.before.if1.false, c.lesser.ensures)
+returns-2 : tie.Need-returns-else-n-s
+returns-2 c = simp (ne_eqb _ _ c.if-n-s.false, c.lesser.ensures)
 
-pub lowest-spec : {M : Type 1} → statement M
-lowest-spec = tie.close (tie.spec lesser-requires returns returns-2)
+pub lowest_spec : {M : Type 1} → statement M
+lowest_spec = tie.close (tie.spec lesser-requires returns returns-2)
