@@ -8,65 +8,57 @@ use Rattle.nodes_to_visit.specs.EntryPlaces.{entered_there, entered_put}
 use Rattle.nodes_to_visit.proofs.enter.Statement.{statement}
 use Rattle.nodes_to_visit.proofs.enter.Tie as tie
 
-numbers-requires : tie.Need-numbers-requires
+numbers-requires : tie.Need-numbers-x-requires
 numbers-requires c κs = search rules
 
-spot-of-requires : tie.Need-spot-of-requires
+spot-of-requires : tie.Need-spot_of-spot-requires
 spot-of-requires c κs = search rules
 
-same_length : tie.Need-same-length
+same_length : tie.Need-shape_of-work-then-spot
 same_length c = search rules
 
-returns : tie.Need-returns
+returns : tie.Need-returns-then-spot
 returns c =
-    let looked = c.before in
-    let packed = looked.before.before in
-    let g = packed.before.before.before.args in
-    let y = packed.numbers in
-    let s = looked.spot_of_lem in
+    let g = c.args in
+    let y = c.numbers-x in
+    let s = c.spot_of-spot in
     let x : NodeBeside = record { node = g.node; threads = take g.e.count g.e.threads } in
-    entered_there rank_of g.work.now g.top g.n s.result.at x y.result s.result.found s.ensures y.ensures.1 y.ensures.0 c.if1.true
+    entered_there rank_of g.work.now g.top g.n s.result.at x y.result s.result.found s.ensures y.ensures.1 y.ensures.0 c.if-spot.true
 
-mul_at : tie.Need-overflow-mul-at
+mul_at : tie.Need-overflow_mul-at
 mul_at c = search rules
 
-add_at : tie.Need-overflow-add-at
+add_at : tie.Need-overflow_add-at
 add_at c = search rules
 
-mul-end : tie.Need-overflow-mul-end
+mul-end : tie.Need-overflow_mul-end
 mul-end c = search rules
 
-add-end : tie.Need-overflow-add-end
+add-end : tie.Need-overflow_add-end
 add-end c = search rules
 
 raise-requires : tie.Need-raise-requires
 raise-requires c κs = search rules
 
-put-three-requires : tie.Need-put-three-requires
+put-three-requires : tie.Need-put_three-requires
 put-three-requires c κs = search rules
 
-add-result : tie.Need-overflow-add-result
+add-result : tie.Need-overflow_add-result
 add-result c = search rules
 
-same-length-2 : tie.Need-same-length-2
+same-length-2 : tie.Need-shape_of-work
 same-length-2 c = search rules
 
-returns-2 : tie.Need-returns-2
+returns-2 : tie.Need-returns
 returns-2 c =
-    let stored = c.before.before in
-    let raised = stored.before.before.before.before in
-    let left = raised.before.before.before in
-    let looked = left.before in
-    let packed = looked.before.before in
-    let a = packed.before.before.before in
-    let r = raised.raise in
-    let s = looked.spot_of_lem in
-    let y = packed.numbers in
-    let g = a.args in
+    let r = c.raise in
+    let s = c.spot_of-spot in
+    let y = c.numbers-x in
+    let g = c.args in
     let x : NodeBeside = record { node = g.node; threads = take g.e.count g.e.threads } in
-    rw stored.put_three.ensures
+    rw c.put_three.ensures
     (entered_put rank_of g.work.now g.top g.n s.result.at x y.result s.result.found s.ensures y.ensures.1 y.ensures.0
-    r.new.0 left.if1.false (omega arith) (omega arith) a.requires.3 r.ensures)
+    r.new.work c.if-spot.false (omega arith) (omega arith) c.requires.3 r.ensures)
 
 pub enter_spec : {M : Type 1} → statement M
 enter_spec =

@@ -8,5 +8,5 @@ returns : tie.Need-returns
 unfolding rank_of
 returns c = refl
 
-pub rank-of-spec : {M : Type 1} → statement M
-rank-of-spec = tie.close (tie.spec returns)
+pub rank_of_spec : {M : Type 1} → statement M
+rank_of_spec = tie.close (tie.spec returns)
