@@ -19,7 +19,7 @@ pub enum Section {
 }
 
 // One store and at most eight threads, in ascending order.
-#[derive(Drop)]
+#[derive(Clone, Copy)]
 pub struct Configuration {
     pub store: u16,
     pub count: u8,

@@ -9,69 +9,67 @@ use Prim.Native.Nat.{◌-◌, ◌≤◌}
 use Rattle.class_splits.proofs.same_numbers.Statement.{statement}
 use Rattle.class_splits.proofs.same_numbers.Tie as tie
 
-abbrev invariant-loop : tie.invariant-loop
+abbrev invariant-loop : tie.invariant-loop-i
 invariant-loop w a b k i₀ i = (i ≤ k) × AgreeBelow w a b i
 
-abbrev decreases-loop : tie.decreases-loop
+abbrev decreases-loop : tie.decreases-loop-i
 decreases-loop w a b k i₀ i = k - i
 
-loop-holds : tie.Need-loop-init invariant-loop decreases-loop
+loop-holds : tie.Need-loop-i-init invariant-loop decreases-loop
 loop-holds c = (omega arith, (λ j h. absurd (omega arith)))
 
-add-if1 : tie.Need-overflow-add-if1 invariant-loop decreases-loop
+add-if1 : tie.Need-overflow_add-a invariant-loop decreases-loop
 add-if1 c = search rules
 
-mul-if1 : tie.Need-overflow-mul-if1 invariant-loop decreases-loop
+mul-if1 : tie.Need-offset_bounds-work-a invariant-loop decreases-loop
 mul-if1 c = search rules
 
-shared-slice-read-if1 : tie.Need-shared-slice-read-if1 invariant-loop decreases-loop
+shared-slice-read-if1 : tie.Need-bounds-work-a invariant-loop decreases-loop
 shared-slice-read-if1 c = search rules
 
-add-if1-2 : tie.Need-overflow-add-if1-2 invariant-loop decreases-loop
+add-if1-2 : tie.Need-overflow_add-b invariant-loop decreases-loop
 add-if1-2 c = search rules
 
-mul-if1-2 : tie.Need-overflow-mul-if1-2 invariant-loop decreases-loop
+mul-if1-2 : tie.Need-offset_bounds-work-b invariant-loop decreases-loop
 mul-if1-2 c = search rules
 
-shared-slice-read-if1-2 : tie.Need-shared-slice-read-if1-2 invariant-loop decreases-loop
+shared-slice-read-if1-2 : tie.Need-bounds-work-b invariant-loop decreases-loop
 shared-slice-read-if1-2 c = search rules
 
-returns : tie.Need-returns invariant-loop decreases-loop
+returns : tie.Need-returns-then-work-a invariant-loop decreases-loop
 returns c =
-    let b = c.before.before.before.before.before in
-    let g = b.args in
-    let l = c.before.before.before.before.loop in
+    let g = c.args in
+    let l = c.loop-i in
     record {
       holds = λ h. true_false false h refl;
-      not_so = λ h e. c.if1.true (same_agree g.work.now g.a g.b g.k b.requires.0 b.requires.1 e l.i (omega arith));
+      not_so = λ h e. c.if-work-a.true (same_agree g.work.now g.a g.b g.k c.requires.0 c.requires.1 e l.i (omega arith));
     }
 
-add-i : tie.Need-overflow-add-i invariant-loop decreases-loop
+add-i : tie.Need-overflow_add-i invariant-loop decreases-loop
 add-i c = search rules
 
-loop-less : tie.Need-loop-smaller invariant-loop decreases-loop
+loop-less : tie.Need-loop-i-smaller invariant-loop decreases-loop
 loop-less c = search rules
 
-loop-again : tie.Need-loop-preserved invariant-loop decreases-loop
+loop-again : tie.Need-loop-i-preserved invariant-loop decreases-loop
 loop-again c =
-    let g = c.before.before.before.before.before.args in
-    let l = c.before.before.before.before.loop in
-    (omega arith, agree_more g.work.now g.a g.b l.i l.invariant.1 c.if1.false)
+    let g = c.args in
+    let l = c.loop-i in
+    (omega arith, agree_more g.work.now g.a g.b l.i l.invariant.1 c.if-work-a.false)
 
-returns-2 : tie.Need-returns-2 invariant-loop decreases-loop
+returns-2 : tie.Need-returns invariant-loop decreases-loop
 returns-2 c =
-    let b = c.before.before in
-    let g = b.args in
-    let l = c.before.loop in
+    let g = c.args in
+    let l = c.loop-i in
     let e : l.i ≡ g.k = omega arith in
     record {
-      holds = λ h. agree_same g.work.now g.a g.b g.k b.requires.0 b.requires.1
+      holds = λ h. agree_same g.work.now g.a g.b g.k c.requires.0 c.requires.1
           (subst (AgreeBelow g.work.now g.a g.b) e l.invariant.1);
       not_so = λ h. true_false true refl h;
     }
 
-pub same-numbers-spec : {M : Type 1} → statement M
-same-numbers-spec =
+pub same_numbers_spec : {M : Type 1} → statement M
+same_numbers_spec =
     tie.close
     (tie.spec
     invariant-loop

@@ -10,152 +10,112 @@ use Rattle.class_splits.proofs.split_member.Statement.{statement}
 use Rattle.class_splits.proofs.split_member.Tie as tie
 
 -- ---- the stages of the function, each from a later one
-abbrev start-of-class-at : tie.After-class-at → tie.Start
-start-of-class-at s = s.before.before.before
-
-abbrev class-at-of-same-lines : tie.After-same-lines → tie.After-class-at
-class-at-of-same-lines s = s.before.before.before
-
-abbrev same-lines-of-else1 : tie.Else1 → tie.After-same-lines
-same-lines-of-else1 s = s.before
-
-abbrev else1-of-part-of : tie.After-part-of → tie.Else1
-else1-of-part-of s = s.before.before
-
-abbrev part-of-of-else2 : tie.Else2 → tie.After-part-of
-part-of-of-else2 s = s.before
-
-abbrev else2-of-put-class : tie.After-put-class → tie.Else2
-else2-of-put-class s = s.before.before
-
-abbrev start-of-part-of : tie.After-part-of → tie.Start
-start-of-part-of s = start-of-class-at (class-at-of-same-lines (same-lines-of-else1 (else1-of-part-of s)))
-
 -- ---- what is left to show
-class-at-requires : tie.Need-class-at-requires
-class-at-requires c κs = let R = c.before.before.requires.0 in (omega (arith, R.few, R.inside), R.long)
+class-at-requires : tie.Need-class_at-c-requires
+class-at-requires c κs = let R = c.requires.0 in (omega (arith, R.few, R.inside), R.long)
 
-cast_f : tie.Need-overflow-cast-f
+cast_f : tie.Need-overflow_cast-f
 cast_f c = search rules
 
-add-f : tie.Need-overflow-add-f
+add-f : tie.Need-overflow_add-f
 add-f c = omega (
   arith,
-  c.class_at.ensures,
-  ready_class c.before.before.before.requires.0,
+  c.class_at-c.ensures,
+  ready_class c.requires.0,
   ready_count
-      c.before.before.before.requires.0,
+      c.requires.0,
 )
 
-mul-f : tie.Need-overflow-mul-f
+mul-f : tie.Need-offset_bounds-work-c
 mul-f c = search rules
 
-slice-read-f : tie.Need-slice-read-f
-slice-read-f c = let R = c.before.before.before.before.requires.0 in omega
-    (arith, c.before.class_at.ensures, ready_class R, ready_count R, R.long)
+slice-read-f : tie.Need-bounds-work-c
+slice-read-f c = let R = c.requires.0 in omega
+    (arith, c.class_at-c.ensures, ready_class R, ready_count R, R.long)
 
-cast-f-2 : tie.Need-overflow-cast-f-2
-cast-f-2 c = omega (arith, c.slice-known2.given (chosen_at + c.before.class_at.result))
+cast-f-2 : tie.Need-overflow_cast-f-2
+cast-f-2 c = omega (arith, c.slice_known-2-1.given (chosen_at + c.class_at-c.result))
 
-same-lines-requires : tie.Need-same-lines-requires
+same-lines-requires : tie.Need-same_lines-requires
 same-lines-requires c κs =
-    let b = c.before.before.before.before.before in
-    let R = b.requires.0 in
-    let k = c.before.before.class_at in
+    let R = c.requires.0 in
+    let k = c.class_at-c in
     (ready_own R, ready_lines R k.result (omega (arith, k.ensures, ready_class R)), R.long)
 
-same_length : tie.Need-same-length
+same_length : tie.Need-shape_of-work-then-same_lines
 same_length c = search rules
 
-returns : tie.Need-returns
+returns : tie.Need-returns-then-same_lines
 returns c =
-    let g = c.before.before.before.before.before.before.before.args in
-    let k = c.before.before.before.before.class_at in
-    let s = c.before.same_lines in
-    split_keeps g.work.now g.round g.i g.old g.count k.result k.ensures s.result s.ensures c.if1.true
+    let g = c.args in
+    let k = c.class_at-c in
+    let s = c.same_lines in
+    split_keeps g.work.now g.round g.i g.old g.count k.result k.ensures s.result s.ensures c.if-same_lines.true
 
-part-of-requires : tie.Need-part-of-requires
+part-of-requires : tie.Need-part_of-k-requires
 part-of-requires c κs =
-    let at_start = start-of-class-at (class-at-of-same-lines (same-lines-of-else1 c.before)) in
-    let R = at_start.pre.0 in
+    let R = c.requires.0 in
     (R.more, ready_count R, ready_own R, ready_lines R, R.long)
 
-cast-work : tie.Need-overflow-cast-work
-cast-work c = omega (arith, c.part_of.ensures.within, ready_count (start-of-part-of c).requires.0)
+cast-work : tie.Need-overflow_cast-work
+cast-work c = omega (arith, c.part_of-k.ensures.within, ready_count c.requires.0)
 
-add-work : tie.Need-overflow-add-work
+add-work : tie.Need-overflow_add-work
 add-work c = search rules
 
-mul-work : tie.Need-overflow-mul-work
+mul-work : tie.Need-offset_bounds-work-i
 mul-work c = search rules
 
-slice-write-work : tie.Need-slice-write-work
-slice-write-work c = let R = (start-of-part-of c).requires.0 in omega (arith, R.few, R.inside, R.long)
+slice-write-work : tie.Need-bounds-work-i
+slice-write-work c = let R = c.requires.0 in omega (arith, R.few, R.inside, R.long)
 
-same-length-2 : tie.Need-same-length-2
+same-length-2 : tie.Need-shape_of-work-then-k-count
 same-length-2 c = search rules
 
-returns-2 : tie.Need-returns-2
+returns-2 : tie.Need-returns-then-k-count
 returns-2 c =
-    let at-part-of = c.before in
-    let at-else1 = else1-of-part-of at-part-of in
-    let at-same-lines = same-lines-of-else1 at-else1 in
-    let at-class-at = class-at-of-same-lines at-same-lines in
-    let at_start = start-of-class-at at-class-at in
-    let g = at_start.args in
-    let k = at-class-at.class_at in
-    let s = at-same-lines.same_lines in
-    let p = at-part-of.part_of in
+    let g = c.args in
+    let k = c.class_at-c in
+    let s = c.same_lines in
+    let p = c.part_of-k in
     split_joins g.work.now g.round g.i g.old g.count k.result k.ensures s.result s.ensures
-    at-else1.if1.left
-    p.result p.ensures c.if2.true
+    c.if-same_lines.false
+    p.result p.ensures c.if-k-count.true
 
-put-class-requires : tie.Need-put-class-requires
+put-class-requires : tie.Need-put_class-requires
 put-class-requires c κs =
-    let at-else1 = else1-of-part-of (part-of-of-else2 c.before) in
-    let at-same-lines = same-lines-of-else1 at-else1 in
-    let at-class-at = class-at-of-same-lines at-same-lines in
-    let b = start-of-class-at at-class-at in
-    let g = b.args in
-    let R = b.pre.0 in
-    let k = at-class-at.class_at in
-    let s = at-same-lines.same_lines in (
+    let g = c.args in
+    let R = c.requires.0 in
+    let k = c.class_at-c in
+    let s = c.same_lines in (
       read_room g.work.now g.round g.i g.old g.count k.result k.ensures s.result s.ensures R
-          at-else1.if1.left,
+          c.if-same_lines.false,
       omega (arith, k.ensures, ready_class R, ready_count R),
-      b.pre.1,
+      c.requires.1,
       omega (arith, R.few, R.inside),
       simp length-set R.long,
     )
 
-add-result : tie.Need-overflow-add-result
+add-result : tie.Need-overflow_add-result
 add-result c =
-    let b = start-of-part-of (part-of-of-else2 (else2-of-put-class c.before.before)) in
-    omega (arith, ready_count b.pre.0)
+    omega (arith, ready_count c.requires.0)
 
-same-length-3 : tie.Need-same-length-3
-same-length-3 c = ap length c.before.before.put-class.ensures ∙ simp length-set
+same-length-3 : tie.Need-shape_of-work
+same-length-3 c = ap length c.put_class.ensures ∙ simp length-set
 
-returns-3 : tie.Need-returns-3
+returns-3 : tie.Need-returns
 returns-3 c =
-    let at-put-class = c.before.before in
-    let at-else2 = else2-of-put-class at-put-class in
-    let at-part-of = part-of-of-else2 at-else2 in
-    let at-else1 = else1-of-part-of at-part-of in
-    let at-same-lines = same-lines-of-else1 at-else1 in
-    let at-class-at = class-at-of-same-lines at-same-lines in
-    let at_start = start-of-class-at at-class-at in
-    let g = at_start.args in
-    let k = at-class-at.class_at in
-    let s = at-same-lines.same_lines in
-    let p = at-part-of.part_of in
-    let q = at-put-class.put-class in
+    let g = c.args in
+    let k = c.class_at-c in
+    let s = c.same_lines in
+    let p = c.part_of-k in
+    let q = c.put_class in
     split_begins g.work.now g.round g.i g.old g.count k.result k.ensures s.result s.ensures
-    at-else1.if1.left
-    p.result p.ensures at-else2.if2.left q.new.0 q.ensures
+    c.if-same_lines.false
+    p.result p.ensures c.if-k-count.false q.new.work q.ensures
 
-pub split-member-spec : {M : Type 1} → statement M
-split-member-spec =
+pub split_member_spec : {M : Type 1} → statement M
+split_member_spec =
     tie.close
     (tie.spec
     class-at-requires

@@ -8,23 +8,23 @@ use Rattle.closed_digits.specs.ClosedDigits.{table_end}
 use Rattle.closed_digits.proofs.hold_table.Statement.{statement}
 use Rattle.closed_digits.proofs.hold_table.Tie as tie
 
-hold-rules-requires : tie.Need-hold-rules-requires
+hold-rules-requires : tie.Need-hold_rules-requires
 hold-rules-requires c κs = search rules
 
-mark-closed-requires : tie.Need-mark-closed-requires
+mark-closed-requires : tie.Need-mark_closed-requires
 mark-closed-requires c κs = search rules
 
-same_length : tie.Need-same-length
+same_length : tie.Need-shape_of-work
 same_length c = search rules
 
 returns : tie.Need-returns
 returns c =
-    let h = c.before.before.before.before.before.before.hold-rules.ensures in
-    let m = c.before.before.mark-closed in (
-      held_agree m.new.1.1.1.0 h.0 (λ i l. m.ensures.1.at i (inl l)),
+    let h = c.hold_rules.ensures in
+    let m = c.mark_closed in (
+      held_agree m.new.work h.0 (λ i l. m.ensures.1.at i (inl l)),
       m.ensures.0,
       outside_then h.1 m.ensures.1 0 table_end (omega arith) (omega arith) (omega arith) (omega arith),
     )
 
-pub hold-table-spec : {M : Type 1} → statement M
-hold-table-spec = tie.close (tie.spec hold-rules-requires mark-closed-requires same_length returns)
+pub hold_table_spec : {M : Type 1} → statement M
+hold_table_spec = tie.close (tie.spec hold-rules-requires mark-closed-requires same_length returns)

@@ -33,21 +33,21 @@ sum_fits a b h l = record { fits = omega (arith, entry-le a h, entry-le b l) }
 bytes : (s : ℕ) → s < 65536 → entry (s % 256) + entry (s / 256) ≡ fact_count 16 s
 bytes s h = omega (arith, entry-is (s % 256) (omega arith), entry-is (s / 256) (omega arith), count_split 8 8 s)
 
-array-read-result : tie.Need-array-read-result
+array-read-result : tie.Need-bounds-s
 array-read-result c = search rules
 
-cast-result : tie.Need-overflow-cast-result
+cast-result : tie.Need-overflow_cast-result
 unfolding digit fact_count tabulate
 cast-result c = entry_fits (c.args.s % 256) (omega arith)
 
-array-read-result-2 : tie.Need-array-read-result-2
+array-read-result-2 : tie.Need-bounds-s-2
 array-read-result-2 c = search rules
 
-cast-result-2 : tie.Need-overflow-cast-result-2
+cast-result-2 : tie.Need-overflow_cast-result-2
 unfolding digit fact_count tabulate
 cast-result-2 c = entry_fits (c.args.s / 256) (search rules)
 
-add-result : tie.Need-overflow-add-result
+add-result : tie.Need-overflow_add-result
 unfolding digit fact_count tabulate
 add-result c = sum_fits (c.args.s % 256) (c.args.s / 256) (omega arith) (search rules)
 
@@ -55,7 +55,7 @@ returns : tie.Need-returns
 unfolding digit fact_count tabulate
 returns c = bytes c.args.s c.requires
 
-pub fact-count-spec : {M : Type 1} → statement M
-fact-count-spec =
+pub fact_count_spec : {M : Type 1} → statement M
+fact_count_spec =
     tie.close
     (tie.spec array-read-result cast-result array-read-result-2 cast-result-2 add-result returns)

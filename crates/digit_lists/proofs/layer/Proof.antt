@@ -35,15 +35,15 @@ at j p h l =
     (all_yes (λ k. all (right k) (count_up 0 32)) (count_up 0 6) all_right (count_up_mem 6 0 j (omega arith) (omega arith)))
     (count_up_mem 32 0 p (omega arith) (omega arith))
 
-mul-result : tie.Need-overflow-mul-result
+mul-result : tie.Need-offset_bounds-j
 mul-result c = search rules
 
-array-read-result : tie.Need-array-read-result
+array-read-result : tie.Need-bounds-j
 array-read-result c = search rules
 
 returns : tie.Need-returns
 unfolding right layers
 returns c = record { digits = λ p h. eqb-true _ _ (at c.args.j p (search rules) h) }
 
-pub layer-spec : {M : Type 1} → statement M
-layer-spec = tie.close (tie.spec mul-result array-read-result returns)
+pub layer_spec : {M : Type 1} → statement M
+layer_spec = tie.close (tie.spec mul-result array-read-result returns)

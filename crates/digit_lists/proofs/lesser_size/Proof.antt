@@ -5,24 +5,24 @@ use Rattle.set_digits.specs.SizeLaws.{count_most}
 use Rattle.digit_lists.proofs.lesser_size.Statement.{statement}
 use Rattle.digit_lists.proofs.lesser_size.Tie as tie
 
-fact-count-requires : tie.Need-fact-count-requires
+fact-count-requires : tie.Need-fact_count-requires
 fact-count-requires c κs = search rules
 
-first-layer-requires : tie.Need-first-layer-requires
+first-layer-requires : tie.Need-first_layer-requires
 first-layer-requires c κs = search rules
 
-add-k : tie.Need-overflow-add-k
-add-k c = omega (arith, c.before.fact-count.ensures, count_most 16 c.before.before.args.i, c.first-layer.ensures.few)
+add-k : tie.Need-overflow_add-k
+add-k c = omega (arith, c.fact_count.ensures, count_most 16 c.args.i, c.first_layer.ensures.few)
 
-returns : tie.Need-returns
+returns : tie.Need-returns-then-k-least
 returns c =
-    let first = c.before.first-layer in
-    (first.result, first.ensures, omega (arith, c.before.before.fact-count.ensures, c.if1.true))
+    let first = c.first_layer in
+    (first.result, first.ensures, omega (arith, c.fact_count.ensures, c.if-k-least.true))
 
-returns-2 : tie.Need-returns-2
+returns-2 : tie.Need-returns-else-k-least
 returns-2 c =
-    let first = c.before.first-layer in
-    (first.result, first.ensures, omega (arith, c.before.before.fact-count.ensures, c.if1.false))
+    let first = c.first_layer in
+    (first.result, first.ensures, omega (arith, c.fact_count.ensures, c.if-k-least.false))
 
-pub lesser-size-spec : {M : Type 1} → statement M
-lesser-size-spec = tie.close (tie.spec fact-count-requires first-layer-requires add-k returns returns-2)
+pub lesser_size_spec : {M : Type 1} → statement M
+lesser_size_spec = tie.close (tie.spec fact-count-requires first-layer-requires add-k returns returns-2)

@@ -5,27 +5,27 @@ use Rattle.digit_lists.specs.SizesInWord.{size_more, size_fewer, size_layer}
 use Rattle.digit_lists.proofs.size_in_word.Statement.{statement}
 use Rattle.digit_lists.proofs.size_in_word.Tie as tie
 
-fact-count-requires : tie.Need-fact-count-requires
+fact-count-requires : tie.Need-fact_count-high-requires
 fact-count-requires c κs = search rules
 
-returns : tie.Need-returns
+returns : tie.Need-returns-then-k-high
 returns c =
-    let g = c.before.before.args in
+    let g = c.args in
     size_more g.x g.i g.k (search rules) (search rules)
 
-returns-2 : tie.Need-returns-2
+returns-2 : tie.Need-returns-then-k-high-gt5
 returns-2 c =
-    let g = c.before.before.before.args in
+    let g = c.args in
     size_fewer g.x g.i g.k (search rules) (search rules)
 
 layer-requires : tie.Need-layer-requires
 layer-requires c κs = search rules
 
-returns-3 : tie.Need-returns-3
+returns-3 : tie.Need-returns
 returns-3 c =
-    let g = c.before.before.before.before.args in
-    size_layer g.x g.i g.k (search rules) (g.k - c.before.before.before.fact-count.result) c.layer.result
+    let g = c.args in
+    size_layer g.x g.i g.k (search rules) (g.k - c.fact_count-high.result) c.layer.result
     (search rules) c.layer.ensures
 
-pub size-in-word-spec : {M : Type 1} → statement M
-size-in-word-spec = tie.close (tie.spec fact-count-requires returns returns-2 layer-requires returns-3)
+pub size_in_word_spec : {M : Type 1} → statement M
+size_in_word_spec = tie.close (tie.spec fact-count-requires returns returns-2 layer-requires returns-3)

@@ -8,66 +8,66 @@ use mathlib.Core.Path.{◌≡◌}
 use Rattle.digit_spread.proofs.join_runs.Statement.{statement}
 use Rattle.digit_spread.proofs.join_runs.Tie as tie
 
-abbrev invariant-loop : tie.invariant-loop
+abbrev invariant-loop : tie.invariant-loop-k
 invariant-loop work₀ from half k₀ work k = (k ≤ half) × RunJoined from half k work₀ work
 
-abbrev decreases-loop : tie.decreases-loop
+abbrev decreases-loop : tie.decreases-loop-k
 decreases-loop work₀ from half k₀ work k = half - k
 
-loop-holds : tie.Need-loop-init invariant-loop decreases-loop
+loop-holds : tie.Need-loop-k-init invariant-loop decreases-loop
 loop-holds c = (search rules, run_none c.args.from c.args.half c.args.work.now)
 
-add-work : tie.Need-overflow-add-work invariant-loop decreases-loop
+add-work : tie.Need-overflow_add-work invariant-loop decreases-loop
 add-work c = search rules
 
-mul-work : tie.Need-overflow-mul-work invariant-loop decreases-loop
+mul-work : tie.Need-offset_bounds-work-from invariant-loop decreases-loop
 mul-work c = search rules
 
-slice-read-work : tie.Need-slice-read-work invariant-loop decreases-loop
+slice-read-work : tie.Need-bounds-work-from invariant-loop decreases-loop
 slice-read-work c = search rules
 
-add-work-2 : tie.Need-overflow-add-work-2 invariant-loop decreases-loop
+add-work-2 : tie.Need-overflow_add-work-in-loop-k invariant-loop decreases-loop
 add-work-2 c = search rules
 
-add-work-3 : tie.Need-overflow-add-work-3 invariant-loop decreases-loop
+add-work-3 : tie.Need-overflow_add-work-in-loop-k-2 invariant-loop decreases-loop
 add-work-3 c = search rules
 
-mul-work-2 : tie.Need-overflow-mul-work-2 invariant-loop decreases-loop
+mul-work-2 : tie.Need-offset_bounds-work-from-in-loop-k invariant-loop decreases-loop
 mul-work-2 c = search rules
 
-slice-read-work-2 : tie.Need-slice-read-work-2 invariant-loop decreases-loop
+slice-read-work-2 : tie.Need-bounds-work-from-in-loop-k invariant-loop decreases-loop
 slice-read-work-2 c = search rules
 
-add-work-4 : tie.Need-overflow-add-work-4 invariant-loop decreases-loop
+add-work-4 : tie.Need-overflow_add-work-in-loop-k-3 invariant-loop decreases-loop
 add-work-4 c = search rules
 
-mul-work-3 : tie.Need-overflow-mul-work-3 invariant-loop decreases-loop
+mul-work-3 : tie.Need-offset_bounds-work-from-in-loop-k-2 invariant-loop decreases-loop
 mul-work-3 c = search rules
 
-slice-write-work : tie.Need-slice-write-work invariant-loop decreases-loop
+slice-write-work : tie.Need-bounds-work-from-in-loop-k-2 invariant-loop decreases-loop
 slice-write-work c = search rules
 
-add-k : tie.Need-overflow-add-k invariant-loop decreases-loop
+add-k : tie.Need-overflow_add-k invariant-loop decreases-loop
 add-k c = search rules
 
-loop-less : tie.Need-loop-smaller invariant-loop decreases-loop
+loop-less : tie.Need-loop-k-smaller invariant-loop decreases-loop
 loop-less c = search rules
 
-loop-again : tie.Need-loop-preserved invariant-loop decreases-loop
+loop-again : tie.Need-loop-k-preserved invariant-loop decreases-loop
 loop-again c =
-    let l = c.before.before.before.loop in
+    let l = c.loop-k in
     (search rules, run_next l.invariant.1 (omega arith) (omega arith))
 
-same_length : tie.Need-same-length invariant-loop decreases-loop
+same_length : tie.Need-shape_of-work invariant-loop decreases-loop
 same_length c = search rules
 
 returns : tie.Need-returns invariant-loop decreases-loop
 returns c =
-    let e : c.before.loop.k ≡ c.before.before.args.half = omega arith in
-    rw e at c.before.loop.invariant.1
+    let e : c.loop-k.k ≡ c.args.half = omega arith in
+    rw e at c.loop-k.invariant.1
 
-pub join-runs-spec : {M : Type 1} → statement M
-join-runs-spec =
+pub join_runs_spec : {M : Type 1} → statement M
+join_runs_spec =
     tie.close
     (tie.spec
     invariant-loop

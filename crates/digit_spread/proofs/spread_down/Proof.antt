@@ -17,10 +17,10 @@ use Rattle.digit_spread.proofs.spread_down.Tie as tie
 abbrev SpreadOn : ℕ → ℕ → ℕ → List ℕ → List ℕ → Type 0
 SpreadOn k at words u v = (w : List ℕ) → SpreadDown 5 at words w u → SpreadDown k at words w v
 
-abbrev invariant-loop : tie.invariant-loop
+abbrev invariant-loop : tie.invariant-loop-b
 invariant-loop work₀ at facts words b₀ work b = (b ≤ facts) × (length work ≡ length work₀) × SpreadOn (b + 5) at (words_of facts) work₀ work
 
-abbrev decreases-loop : tie.decreases-loop
+abbrev decreases-loop : tie.decreases-loop-b
 decreases-loop work₀ at facts words b₀ work b = facts - b
 
 -- the blocks of a pass make all the words
@@ -31,69 +31,68 @@ blocks-whole facts b h l =
     let f : facts - 5 - 1 - b ≡ facts - 6 - b = omega arith in
     sym (blocks_of_lem (facts - 5) b (omega arith)) ∙ ap (λ n. 2 * 2 ^ n * 2 ^ b) f ∙ ap (λ n. 2 * n * 2 ^ b) (sym e)
 
-words-of-requires : tie.Need-words-of-requires invariant-loop decreases-loop
+words-of-requires : tie.Need-words_of-words-requires invariant-loop decreases-loop
 words-of-requires c κs = search rules
 
-spread-words-requires : tie.Need-spread-words-requires invariant-loop decreases-loop
+spread-words-requires : tie.Need-spread_words-requires invariant-loop decreases-loop
 spread-words-requires c κs = search rules
 
-loop-holds : tie.Need-loop-init invariant-loop decreases-loop
+loop-holds : tie.Need-loop-b-init invariant-loop decreases-loop
 loop-holds c = (search rules, search rules, λ w p. p)
 
-add-loop : tie.Need-overflow-add-loop invariant-loop decreases-loop
+add-loop : tie.Need-overflow_add-b invariant-loop decreases-loop
 add-loop c = search rules
 
-sub-blocks : tie.Need-overflow-sub-blocks invariant-loop decreases-loop
+sub-blocks : tie.Need-overflow_sub-blocks invariant-loop decreases-loop
 sub-blocks c = search rules
 
-sub-blocks-2 : tie.Need-overflow-sub-blocks-2 invariant-loop decreases-loop
+sub-blocks-2 : tie.Need-overflow_sub-blocks-in-loop-b invariant-loop decreases-loop
 sub-blocks-2 c = search rules
 
-cast-blocks : tie.Need-overflow-cast-blocks invariant-loop decreases-loop
+cast-blocks : tie.Need-overflow_cast-blocks invariant-loop decreases-loop
 cast-blocks c = search rules
 
-shl-blocks : tie.Need-overflow-shl-blocks invariant-loop decreases-loop
+shl-blocks : tie.Need-overflow_shl-blocks invariant-loop decreases-loop
 shl-blocks c = search rules
 
-join-words-requires : tie.Need-join-words-requires invariant-loop decreases-loop
+join-words-requires : tie.Need-join_words-requires invariant-loop decreases-loop
 join-words-requires c κs =
-    let a = c.before.before.before.before.before.before.before.before.before.args in
-    let l = c.before.before.loop in
+    let a = c.args in
+    let l = c.loop-b in
     let e = blocks-whole a.facts l.b (omega arith) (omega arith) in
     let few : 2 ^ (a.facts - 5) ≤ words_of max_facts = pow_mono {i = a.facts - 5} {j = max_facts - 5} (omega arith) in
     (omega arith, omega arith, omega arith)
 
-add-b : tie.Need-overflow-add-b invariant-loop decreases-loop
+add-b : tie.Need-overflow_add-b-in-loop-b invariant-loop decreases-loop
 add-b c = search rules
 
-loop-less : tie.Need-loop-smaller invariant-loop decreases-loop
+loop-less : tie.Need-loop-b-smaller invariant-loop decreases-loop
 loop-less c = search rules
 
-loop-again : tie.Need-loop-preserved invariant-loop decreases-loop
+loop-again : tie.Need-loop-b-preserved invariant-loop decreases-loop
 loop-again c =
-    let a = c.before.before.before.before.before.before.before.before.before.before.before.before.args in
-    let l = c.before.before.before.before.before.loop in
+    let a = c.args in
+    let l = c.loop-b in
     let blocks = 1 * 2 ^ (a.facts - 6 - l.b) % 2 ^ 64 in
     let e = blocks-whole a.facts l.b (omega arith) (omega arith) in
-    let j : WordsJoined l.b a.at (words_of a.facts) l.work c.before.before.join-words.new.0 =
-    subst (λ n. WordsJoined l.b a.at n l.work c.before.before.join-words.new.0) (sym e) c.before.before.join-words.ensures in
+    let j : WordsJoined l.b a.at (words_of a.facts) l.work c.join_words.new.work =
+    subst (λ n. WordsJoined l.b a.at n l.work c.join_words.new.work) (sym e) c.join_words.ensures in
     (search rules, j.same.long ∙ l.invariant.1, λ w p. spread_next blocks e (l.invariant.2 w p) j)
 
-same_length : tie.Need-same-length invariant-loop decreases-loop
+same_length : tie.Need-shape_of-work invariant-loop decreases-loop
 same_length c = search rules
 
 returns : tie.Need-returns invariant-loop decreases-loop
 returns c =
-    let a = c.before.before.before.before.before.before.before.before.args in
-    let s = c.before.before.before.before in
-    let e : s.before.before.words_of.result ≡ words_of a.facts = omega arith in
-    let l = c.before.loop in
+    let a = c.args in
+    let e : c.words_of-words.result ≡ words_of a.facts = omega arith in
+    let l = c.loop-b in
     spread_all (sets_fit {facts = a.facts} {m = l.b + 5} (omega arith) (omega arith))
     (sets_fit {facts = a.facts} {m = max_facts} (omega arith) (omega arith))
-    (l.invariant.2 a.work.now (rw e at s.spread-words.ensures))
+    (l.invariant.2 a.work.now (rw e at c.spread_words.ensures))
 
-pub spread-down-spec : {M : Type 1} → statement M
-spread-down-spec =
+pub spread_down_spec : {M : Type 1} → statement M
+spread_down_spec =
     tie.close
     (tie.spec
     invariant-loop

@@ -14,73 +14,68 @@ use Rattle.round_steps.proofs.chosen_listed.Statement.{statement}
 use Rattle.round_steps.proofs.chosen_listed.Tie as tie
 use Rattle.work_layout.specs.ClassLayout.{class_in}
 
-abbrev invariant-loop : tie.invariant-loop
+abbrev invariant-loop : tie.invariant-loop-j
 invariant-loop w list k j₀ j =
     (j ≤ k) × ((i : ℕ) → i < j → chosen_in w (class_in w (get_or list i 0)) ≡ get_or list i 0 → ⊥)
 
-abbrev decreases-loop : tie.decreases-loop
+abbrev decreases-loop : tie.decreases-loop-j
 decreases-loop w list k j₀ j = k - j
 
-loop-holds : tie.Need-loop-init invariant-loop decreases-loop
+loop-holds : tie.Need-loop-j-init invariant-loop decreases-loop
 loop-holds c = (omega arith, (λ i l. absurd (omega arith)))
 
-mul-i : tie.Need-overflow-mul-i invariant-loop decreases-loop
+mul-i : tie.Need-offset_bounds-list-j invariant-loop decreases-loop
 mul-i c = search rules
 
-element-copy-out-i : tie.Need-element-copy-out-i invariant-loop decreases-loop
+element-copy-out-i : tie.Need-bounds-list-j invariant-loop decreases-loop
 element-copy-out-i c = search rules
 
-cast-i : tie.Need-overflow-cast-i invariant-loop decreases-loop
+cast-i : tie.Need-overflow_cast-i invariant-loop decreases-loop
 cast-i c =
-    let b = c.before.before.before.before in
-    let l = c.before.before.loop in
-    record { fits = omega (arith, (b.requires.2 l.j c.before.loop-test.true).0) }
+    let l = c.loop-j in
+    record { fits = omega (arith, (c.requires.2 l.j c.loop-j-test.true).0) }
 
-class-at-requires : tie.Need-class-at-requires invariant-loop decreases-loop
+class-at-requires : tie.Need-class_at-c-requires invariant-loop decreases-loop
 class-at-requires c κs =
-    let b = c.before.before.before.before in
-    let l = c.before.before.loop in
-    (omega (arith, (b.requires.2 l.j c.before.loop-test.true).0), b.requires.1)
+    let l = c.loop-j in
+    (omega (arith, (c.requires.2 l.j c.loop-j-test.true).0), c.requires.1)
 
-cast-if1 : tie.Need-overflow-cast-if1 invariant-loop decreases-loop
+cast-if1 : tie.Need-overflow_cast-c invariant-loop decreases-loop
 cast-if1 c = search rules
 
-add-if1 : tie.Need-overflow-add-if1 invariant-loop decreases-loop
+add-if1 : tie.Need-overflow_add-c invariant-loop decreases-loop
 add-if1 c = search rules
 
-mul-if1 : tie.Need-overflow-mul-if1 invariant-loop decreases-loop
+mul-if1 : tie.Need-offset_bounds-work-c invariant-loop decreases-loop
 mul-if1 c = search rules
 
-shared-slice-read-if1 : tie.Need-shared-slice-read-if1 invariant-loop decreases-loop
+shared-slice-read-if1 : tie.Need-bounds-work-c invariant-loop decreases-loop
 shared-slice-read-if1 c =
-    let b = c.before.before.before.before.before.before in
-    let l = c.before.before.before.before.loop in
-    omega (arith, c.before.class_at.ensures, (b.requires.2 l.j c.before.before.before.loop-test.true).1, b.requires.1)
+    let l = c.loop-j in
+    omega (arith, c.class_at-c.ensures, (c.requires.2 l.j c.loop-j-test.true).1, c.requires.1)
 
-cast-if1-2 : tie.Need-overflow-cast-if1-2 invariant-loop decreases-loop
+cast-if1-2 : tie.Need-overflow_cast-i-in-loop-j invariant-loop decreases-loop
 cast-if1-2 c =
-    let b = c.before.before.before.before.before.before in
-    let l = c.before.before.before.before.loop in
-    record { fits = omega (arith, (b.requires.2 l.j c.before.before.before.loop-test.true).0) }
+    let l = c.loop-j in
+    record { fits = omega (arith, (c.requires.2 l.j c.loop-j-test.true).0) }
 
-returns : tie.Need-returns invariant-loop decreases-loop
+returns : tie.Need-returns-then-work-c invariant-loop decreases-loop
 returns c = λ e. absurd (true_false true refl e)
 
-add-j : tie.Need-overflow-add-j invariant-loop decreases-loop
+add-j : tie.Need-overflow_add-j invariant-loop decreases-loop
 add-j c = search rules
 
-loop-less : tie.Need-loop-smaller invariant-loop decreases-loop
+loop-less : tie.Need-loop-j-smaller invariant-loop decreases-loop
 loop-less c = search rules
 
-loop-again : tie.Need-loop-preserved invariant-loop decreases-loop
+loop-again : tie.Need-loop-j-preserved invariant-loop decreases-loop
 loop-again c =
-    let b = c.before.before.before.before.before.before.before in
-    let g = b.args in
-    let l = c.before.before.before.before.before.loop in
-    let k = c.before.before.class_at in (
+    let g = c.args in
+    let l = c.loop-j in
+    let k = c.class_at-c in (
       omega arith,
       (λ i h. go g.work.now g.list.now l.j l.invariant.1
-          (λ e. c.if1.false (ap (chosen_in g.work.now) k.ensures ∙ e)) i h (tested (eqb i l.j))),
+          (λ e. c.if-work-c.false (ap (chosen_in g.work.now) k.ensures ∙ e)) i h (tested (eqb i l.j))),
     )
   where
     go : (w list : List ℕ) (j : ℕ) → ((i : ℕ) → i < j → chosen_in w (class_in w (get_or list i 0)) ≡ get_or list i 0 → ⊥)
@@ -90,13 +85,13 @@ loop-again c =
         subst (λ (z : ℕ). chosen_in w (class_in w (get_or list z 0)) ≡ get_or list z 0 → ⊥) (sym (eqb-true i j e)) d
     go w list j f d i h (fails e) = f i (omega (arith, eqb-false i j e))
 
-returns-2 : tie.Need-returns-2 invariant-loop decreases-loop
+returns-2 : tie.Need-returns invariant-loop decreases-loop
 returns-2 c =
-    let l = c.before.loop in
+    let l = c.loop-j in
     λ e j h. l.invariant.1 j (omega arith)
 
-pub chosen-listed-spec : {M : Type 1} → statement M
-chosen-listed-spec =
+pub chosen_listed_spec : {M : Type 1} → statement M
+chosen_listed_spec =
     tie.close
     (tie.spec
     invariant-loop

@@ -8,48 +8,47 @@ use Prim.Native.Nat.{ℕ, ◌-◌, ◌≤◌}
 use Rattle.round_steps.proofs.found_classes.Statement.{statement}
 use Rattle.round_steps.proofs.found_classes.Tie as tie
 
-abbrev invariant-loop : tie.invariant-loop
+abbrev invariant-loop : tie.invariant-loop-i
 invariant-loop w₀ n count₀ i₀ w count i = (i ≤ n) × (length w ≡ length w₀) × Founding w₀ i w count
 
-abbrev decreases-loop : tie.decreases-loop
+abbrev decreases-loop : tie.decreases-loop-i
 decreases-loop w₀ n count₀ i₀ w count i = n - i
 
-loop-holds : tie.Need-loop-init invariant-loop decreases-loop
-loop-holds c = (omega arith, refl, founding_first c.before.args.work.now)
+loop-holds : tie.Need-loop-i-init invariant-loop decreases-loop
+loop-holds c = (omega arith, refl, founding_first c.args.work.now)
 
-found-class-requires : tie.Need-found-class-requires invariant-loop decreases-loop
+found-class-requires : tie.Need-found_class-count-requires invariant-loop decreases-loop
 found-class-requires c κs =
-    let l = c.before.before.loop in
+    let l = c.loop-i in
     let F = l.invariant.2 in
     (omega arith, F.count_fits, (λ h. omega (arith, F.newest h)), omega arith)
 
-add-i : tie.Need-overflow-add-i invariant-loop decreases-loop
+add-i : tie.Need-overflow_add-i invariant-loop decreases-loop
 add-i c = search rules
 
-loop-less : tie.Need-loop-smaller invariant-loop decreases-loop
+loop-less : tie.Need-loop-i-smaller invariant-loop decreases-loop
 loop-less c = search rules
 
-loop-again : tie.Need-loop-preserved invariant-loop decreases-loop
+loop-again : tie.Need-loop-i-preserved invariant-loop decreases-loop
 loop-again c =
-    let b = c.before.before.before.before.before.before.before in
-    let l = c.before.before.before.before.before.loop in
-    let f = c.before.before.found_class in
-    let x = founding_next b.args.work.now l.i l.work l.count l.invariant.2 (omega arith) (omega (arith, b.requires)) f.new.0
+    let l = c.loop-i in
+    let f = c.found_class-count in
+    let x = founding_next c.args.work.now l.i l.work l.count l.invariant.2 (omega arith) (omega (arith, c.requires)) f.new.work
     f.result f.ensures in
     (omega arith, x.only.long, x)
 
-same_length : tie.Need-same-length invariant-loop decreases-loop
+same_length : tie.Need-shape_of-work invariant-loop decreases-loop
 same_length c = search rules
 
 returns : tie.Need-returns invariant-loop decreases-loop
 returns c =
-    let g = c.before.before.before.args in
-    let l = c.before.loop in
+    let g = c.args in
+    let l = c.loop-i in
     let e : l.i ≡ g.n = omega arith in
     subst (λ (z : ℕ). Founding g.work.now z l.work l.count) e l.invariant.2
 
-pub found-classes-spec : {M : Type 1} → statement M
-found-classes-spec =
+pub found_classes_spec : {M : Type 1} → statement M
+found_classes_spec =
     tie.close
     (tie.spec
     invariant-loop

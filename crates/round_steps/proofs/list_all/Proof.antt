@@ -12,37 +12,36 @@ use mathlib.Core.Path.{◌≡◌, refl, sym, ap, ◌∙◌}
 use Rattle.round_steps.proofs.list_all.Statement.{statement}
 use Rattle.round_steps.proofs.list_all.Tie as tie
 
-abbrev invariant-loop : tie.invariant-loop
+abbrev invariant-loop : tie.invariant-loop-i
 invariant-loop list₀ n i₀ list i = (i ≤ n) × (length list ≡ length list₀) × ((j : ℕ) → j < i → get_or list j 0 ≡ j)
 
-abbrev decreases-loop : tie.decreases-loop
+abbrev decreases-loop : tie.decreases-loop-i
 decreases-loop list₀ n i₀ list i = n - i
 
-loop-holds : tie.Need-loop-init invariant-loop decreases-loop
+loop-holds : tie.Need-loop-i-init invariant-loop decreases-loop
 loop-holds c = (omega arith, refl, (λ j l. absurd (omega arith)))
 
-cast-list : tie.Need-overflow-cast-list invariant-loop decreases-loop
+cast-list : tie.Need-overflow_cast-list invariant-loop decreases-loop
 cast-list c = search rules
 
-mul-list : tie.Need-overflow-mul-list invariant-loop decreases-loop
+mul-list : tie.Need-offset_bounds-list-i invariant-loop decreases-loop
 mul-list c = search rules
 
-slice-write-list : tie.Need-slice-write-list invariant-loop decreases-loop
+slice-write-list : tie.Need-bounds-list-i invariant-loop decreases-loop
 slice-write-list c = search rules
 
-add-i : tie.Need-overflow-add-i invariant-loop decreases-loop
+add-i : tie.Need-overflow_add-i invariant-loop decreases-loop
 add-i c = search rules
 
-loop-less : tie.Need-loop-smaller invariant-loop decreases-loop
+loop-less : tie.Need-loop-i-smaller invariant-loop decreases-loop
 loop-less c = search rules
 
-loop-again : tie.Need-loop-preserved invariant-loop decreases-loop
+loop-again : tie.Need-loop-i-preserved invariant-loop decreases-loop
 loop-again c =
-    let b = c.before.before in
-    let l = c.before.loop in (
+    let l = c.loop-i in (
       omega arith,
       length-set l.list l.i l.i ∙ l.invariant.1,
-      (λ j h. go l.list l.i (omega (arith, b.requires.1, l.invariant.1, c.loop-test.true)) l.invariant.2 j h (tested (eqb j l.i))),
+      (λ j h. go l.list l.i (omega (arith, c.requires.1, l.invariant.1, c.loop-i-test.true)) l.invariant.2 j h (tested (eqb j l.i))),
     )
   where
     go : (list : List ℕ) (i : ℕ) → i < length list → ((j : ℕ) → j < i → get_or list j 0 ≡ j) → (j : ℕ) → j < i + 1 → Tested (eqb j i)
@@ -54,16 +53,16 @@ loop-again c =
         let d : j ≡ i → ⊥ = eqb-false j i e in
         get_or-set_other list i j i 0 d ∙ f j (omega arith)
 
-same_length : tie.Need-same-length invariant-loop decreases-loop
+same_length : tie.Need-shape_of-list invariant-loop decreases-loop
 same_length c = search rules
 
 returns : tie.Need-returns invariant-loop decreases-loop
 returns c =
-    let l = c.before.loop in
+    let l = c.loop-i in
     λ j h. l.invariant.2 j (omega arith)
 
-pub list-all-spec : {M : Type 1} → statement M
-list-all-spec =
+pub list_all_spec : {M : Type 1} → statement M
+list_all_spec =
     tie.close
     (tie.spec
     invariant-loop

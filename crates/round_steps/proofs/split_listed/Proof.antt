@@ -14,69 +14,57 @@ use mathlib.Core.Path.{◌≡◌, refl, sym, ap, ◌∙◌, subst}
 use Rattle.round_steps.proofs.split_listed.Statement.{statement}
 use Rattle.round_steps.proofs.split_listed.Tie as tie
 
-abbrev invariant-loop : tie.invariant-loop
+abbrev invariant-loop : tie.invariant-loop-j
 invariant-loop w₀ n list k round old count₀ j₀ w count j =
     (j ≤ k) × (length w ≡ length w₀) × Splitting w₀ n round old w count (InList list j)
 
-abbrev decreases-loop : tie.decreases-loop
+abbrev decreases-loop : tie.decreases-loop-j
 decreases-loop w₀ n list k round old count₀ j₀ w count j = k - j
 
 -- ---- the stages of the function, each from a later one
-abbrev start-of-at-loop : tie.At-loop invariant-loop decreases-loop → tie.Start invariant-loop decreases-loop
-start-of-at-loop s = s.before.before
-
-abbrev at-loop-of-split-member : tie.After-split-member invariant-loop decreases-loop → tie.At-loop invariant-loop decreases-loop
-at-loop-of-split-member s = s.before.before.before.before
-
 -- ---- what is left to show
-loop-holds : tie.Need-loop-init invariant-loop decreases-loop
+loop-holds : tie.Need-loop-j-init invariant-loop decreases-loop
 loop-holds c =
-    let b = c.before in
-    let g = b.args in
-    (omega arith, refl, splitting_first g.work.now g.n g.round g.old b.requires.3 (InList g.list.now 0) (λ i x. omega (arith, x.1)))
+    let g = c.args in
+    (omega arith, refl, splitting_first g.work.now g.n g.round g.old c.requires.3 (InList g.list.now 0) (λ i x. omega (arith, x.1)))
 
-mul-i : tie.Need-overflow-mul-i invariant-loop decreases-loop
+mul-i : tie.Need-offset_bounds-list-j invariant-loop decreases-loop
 mul-i c = search rules
 
-element-copy-out-i : tie.Need-element-copy-out-i invariant-loop decreases-loop
+element-copy-out-i : tie.Need-bounds-list-j invariant-loop decreases-loop
 element-copy-out-i c = search rules
 
-cast-i : tie.Need-overflow-cast-i invariant-loop decreases-loop
+cast-i : tie.Need-overflow_cast-i invariant-loop decreases-loop
 cast-i c =
-    let b = c.before.before.before.before in
-    let l = c.before.before.loop in
-    record { fits = omega (arith, b.requires.5.below l.j c.before.loop-test.true, b.requires.0) }
+    let l = c.loop-j in
+    record { fits = omega (arith, c.requires.5.below l.j c.loop-j-test.true, c.requires.0) }
 
-split-member-requires : tie.Need-split-member-requires invariant-loop decreases-loop
+split-member-requires : tie.Need-split_member-count-requires invariant-loop decreases-loop
 split-member-requires c κs =
-    let b = c.before.before.before.before.before in
-    let g = b.args in
-    let l = c.before.before.before.loop in (
+    let g = c.args in
+    let l = c.loop-j in (
       splitting_ready g.work.now g.n g.round g.old l.work l.count (InList g.list.now l.j) l.invariant.2
-          (get_or g.list.now l.j 0) b.requires.0 b.requires.1 (b.requires.5.below l.j c.before.before.loop-test.true) b.requires.4,
-      b.requires.2,
+          (get_or g.list.now l.j 0) c.requires.0 c.requires.1 (c.requires.5.below l.j c.loop-j-test.true) c.requires.4,
+      c.requires.2,
     )
 
-add-j : tie.Need-overflow-add-j invariant-loop decreases-loop
+add-j : tie.Need-overflow_add-j invariant-loop decreases-loop
 add-j c = search rules
 
-loop-less : tie.Need-loop-smaller invariant-loop decreases-loop
+loop-less : tie.Need-loop-j-smaller invariant-loop decreases-loop
 loop-less c = search rules
 
-loop-again : tie.Need-loop-preserved invariant-loop decreases-loop
+loop-again : tie.Need-loop-j-preserved invariant-loop decreases-loop
 loop-again c =
-    let at-split-member = c.before.before in
-    let at-loop = at-loop-of-split-member at-split-member in
-    let b = start-of-at-loop at-loop in
-    let g = b.args in
-    let l = at-loop.loop in
-    let h = c.before.before.before.before.before.loop-test.true in
-    let s = at-split-member.split-member in
+    let g = c.args in
+    let l = c.loop-j in
+    let h = c.loop-j-test.true in
+    let s = c.split_member-count in
     let list : List ℕ = g.list.now in
-    let x = splitting_next g.work.now g.n g.round g.old l.work l.count (InList list l.j) l.inv.2
-    (get_or list l.j 0) b.pre.0 b.pre.1 (b.pre.5.below l.j h) b.pre.3.known (list_new b.pre.5 l.j h)
+    let x = splitting_next g.work.now g.n g.round g.old l.work l.count (InList list l.j) l.invariant.2
+    (get_or list l.j 0) c.requires.0 c.requires.1 (c.requires.5.below l.j h) c.requires.3.known (list_new c.requires.5 l.j h)
     (InList list (l.j + 1)) (l.j, omega arith, refl) (λ i y. (y.0, omega (arith, y.1), y.2)) (λ i y d. before list l.j i y d)
-    b.pre.2 s.new.0 s.result s.ensures in
+    c.requires.2 s.new.work s.result s.ensures in
     (omega arith, x.only.long, x)
   where
     before : (list : List ℕ) (j i : ℕ) → InList list (j + 1) i → (i ≡ get_or list j 0 → ⊥) → InList list j i
@@ -86,18 +74,18 @@ loop-again c =
         less (passes e) = absurd (d (sym y.2 ∙ ap (λ (z : ℕ). get_or list z 0) (eqb-true y.0 j e)))
         less (fails e) = omega (arith, y.1, eqb-false y.0 j e)
 
-same_length : tie.Need-same-length invariant-loop decreases-loop
+same_length : tie.Need-shape_of-work invariant-loop decreases-loop
 same_length c = search rules
 
 returns : tie.Need-returns invariant-loop decreases-loop
 returns c =
-    let g = c.before.before.before.args in
-    let l = c.before.loop in
+    let g = c.args in
+    let l = c.loop-j in
     let e : l.j ≡ g.k = omega arith in
     subst (λ (z : ℕ). Splitting g.work.now g.n g.round g.old l.work l.count (InList g.list.now z)) e l.invariant.2
 
-pub split-listed-spec : {M : Type 1} → statement M
-split-listed-spec =
+pub split_listed_spec : {M : Type 1} → statement M
+split_listed_spec =
     tie.close
     (tie.spec
     invariant-loop

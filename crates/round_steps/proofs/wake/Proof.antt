@@ -11,94 +11,78 @@ use Rattle.round_steps.proofs.wake.Statement.{statement}
 use Rattle.round_steps.proofs.wake.Tie as tie
 use Rattle.work_layout.specs.WorkLayout.{member_room}
 
-abbrev invariant-loop : tie.invariant-loop
+abbrev invariant-loop : tie.invariant-loop-j
 invariant-loop w sets width old list k awake₀ j₀ awake j = (j ≤ k) × Woken w sets width old list j awake
 
-abbrev decreases-loop : tie.decreases-loop
+abbrev decreases-loop : tie.decreases-loop-j
 decreases-loop w sets width old list k awake₀ j₀ awake j = k - j
 
 -- ---- the stages of the function, each from a later one
-abbrev start-of-at-loop : tie.At-loop invariant-loop decreases-loop → tie.Start invariant-loop decreases-loop
-start-of-at-loop s = s.before.before.before
-
-abbrev at-loop-of-class-at : tie.After-class-at invariant-loop decreases-loop → tie.At-loop invariant-loop decreases-loop
-at-loop-of-class-at s = s.before.before.before
-
 -- ---- what is left to show
-loop-holds : tie.Need-loop-init invariant-loop decreases-loop
+loop-holds : tie.Need-loop-j-init invariant-loop decreases-loop
 loop-holds c =
-    let g = c.before.before.args in
+    let g = c.args in
     (omega arith, woken_none g.work.now g.sets.now g.width g.old g.list.now g.awake.now)
 
-mul-i : tie.Need-overflow-mul-i invariant-loop decreases-loop
+mul-i : tie.Need-offset_bounds-list-j invariant-loop decreases-loop
 mul-i c = search rules
 
-element-copy-out-i : tie.Need-element-copy-out-i invariant-loop decreases-loop
+element-copy-out-i : tie.Need-bounds-list-j invariant-loop decreases-loop
 element-copy-out-i c = search rules
 
-cast-i : tie.Need-overflow-cast-i invariant-loop decreases-loop
+cast-i : tie.Need-overflow_cast-i invariant-loop decreases-loop
 cast-i c =
-    let b = c.before.before.before.before.before in
-    let l = c.before.before.loop in
-    record { fits = omega (arith, (b.requires.3 l.j c.before.loop-test.true).0) }
+    let l = c.loop-j in
+    record { fits = omega (arith, (c.requires.3 l.j c.loop-j-test.true).0) }
 
-class-at-requires : tie.Need-class-at-requires invariant-loop decreases-loop
+class-at-requires : tie.Need-class_at-requires invariant-loop decreases-loop
 class-at-requires c κs =
-    let b = c.before.before.before.before.before in
-    let l = c.before.before.loop in
-    (omega (arith, (b.requires.3 l.j c.before.loop-test.true).0), b.requires.1)
+    let l = c.loop-j in
+    (omega (arith, (c.requires.3 l.j c.loop-j-test.true).0), c.requires.1)
 
-cast-if1 : tie.Need-overflow-cast-if1 invariant-loop decreases-loop
+cast-if1 : tie.Need-overflow_cast-class_at invariant-loop decreases-loop
 cast-if1 c = search rules
 
-mul-unite : tie.Need-overflow-mul-unite invariant-loop decreases-loop
+mul-unite : tie.Need-overflow_mul-i invariant-loop decreases-loop
 mul-unite c =
-    let at-loop = at-loop-of-class-at c.before in
-    let b = start-of-at-loop at-loop in
-    let g = b.args in
-    let l = at-loop.loop in
-    let m : get_or g.list.now l.j 0 ≤ member_room = omega (arith, (b.pre.3 l.j c.before.before.before.loop-test.true).0) in
-    record { fits = omega (arith, mul-le-mul_right g.width m, b.pre.2) }
+    let g = c.args in
+    let l = c.loop-j in
+    let m : get_or g.list.now l.j 0 ≤ member_room = omega (arith, (c.requires.3 l.j c.loop-j-test.true).0) in
+    record { fits = omega (arith, mul-le-mul_right g.width m, c.requires.2) }
 
 unite-requires : tie.Need-unite-requires invariant-loop decreases-loop
 unite-requires c κs =
-    let at-class-at = c.before.before in
-    let at-loop = at-loop-of-class-at at-class-at in
-    let b = start-of-at-loop at-loop in
-    let l = at-loop.loop in
-    (b.pre.2, (b.pre.3 l.j c.before.before.before.before.loop-test.true).1)
+    let l = c.loop-j in
+    (c.requires.2, (c.requires.3 l.j c.loop-j-test.true).1)
 
-add-j : tie.Need-overflow-add-j invariant-loop decreases-loop
+add-j : tie.Need-overflow_add-j invariant-loop decreases-loop
 add-j c = search rules
 
-loop-less : tie.Need-loop-smaller invariant-loop decreases-loop
+loop-less : tie.Need-loop-j-smaller invariant-loop decreases-loop
 loop-less c = search rules
 
-loop-again : tie.Need-loop-preserved invariant-loop decreases-loop
+loop-again : tie.Need-loop-j-preserved invariant-loop decreases-loop
 loop-again c =
-    let at-class-at = c.before in
-    let at-loop = at-loop-of-class-at at-class-at in
-    let b = start-of-at-loop at-loop in
-    let g = b.args in
-    let l = at-loop.loop in
-    let k = at-class-at.class_at in (
+    let g = c.args in
+    let l = c.loop-j in
+    let k = c.class_at in (
       omega arith,
-      ⊎_elim (λ z. rw z.3
-          (woken_more g.work.now g.sets.now g.width g.old g.list.now l.j l.awake z.2.last.1.1.1.0 l.inv.1 z.2.ensures))
-          (λ z. rw z.1
-          (woken_pass g.work.now g.sets.now g.width g.old g.list.now l.j l.awake l.inv.1
-          (omega (arith, k.ensures, z.0.left)))) c.if1.branch,
+      ⊎_elim (λ z. rw z.awake-is
+          (woken_more g.work.now g.sets.now g.width g.old g.list.now l.j l.awake z.unite.new.into l.invariant.1 z.unite.ensures))
+          (λ z. rw z.awake-is
+          (woken_pass g.work.now g.sets.now g.width g.old g.list.now l.j l.awake l.invariant.1
+          (omega (arith, k.ensures, z.if-old-class_at.false)))) c.if-old-class_at.branch-raw,
     )
 
 returns : tie.Need-returns invariant-loop decreases-loop
 returns c =
-    let g = c.before.before.before.before.args in
-    let l = c.before.loop in
+    let g = c.args in
+    let l = c.loop-j in
     let e : l.j ≡ g.k = omega arith in
     subst (λ (z : ℕ). Woken g.work.now g.sets.now g.width g.old g.list.now z l.awake) e l.invariant.1
 
-pub wake-spec : {M : Type 1} → statement M
-wake-spec =
+pub wake_spec : {M : Type 1} → statement M
+wake_spec =
     tie.close
     (tie.spec
     invariant-loop
