@@ -10,17 +10,17 @@ use Rattle.node_reader.proofs.held_first.Tie as tie
 close-requires : tie.Need-close-requires
 close-requires c κs = search rules
 
-returns : tie.Need-returns
-returns c = let a = c.before.before.before.args in
-    c.close.ensures ∙ sym (closed_set (rules_in a.rules.now a.rule-count) a.kind a.first (omega arith) (omega arith))
+returns : tie.Need-returns-in-1
+returns c = let a = c.args in
+    c.close.ensures ∙ sym (closed_set (rules_in a.rules.now a.rule_count) a.kind a.first (omega arith) (omega arith))
 
-returns-2 : tie.Need-returns-2
-returns-2 c = let a = c.before.args in
-    sym (closed_other (rules_in a.rules.now a.rule-count) a.kind a.first (λ e. omega arith) (λ e. omega arith))
+returns-2 : tie.Need-returns-in_default
+returns-2 c = let a = c.args in
+    sym (closed_other (rules_in a.rules.now a.rule_count) a.kind a.first (λ e. omega arith) (λ e. omega arith))
 
-returns-3 : tie.Need-returns-3
-returns-3 c = let a = c.before.before.args in
-    sym (closed_other (rules_in a.rules.now a.rule-count) a.kind a.first (λ e. omega arith) (λ e. omega arith))
+returns-3 : tie.Need-returns-in_default-2
+returns-3 c = let a = c.args in
+    sym (closed_other (rules_in a.rules.now a.rule_count) a.kind a.first (λ e. omega arith) (λ e. omega arith))
 
-pub held-first-spec : {M : Type 1} → statement M
-held-first-spec = tie.close (tie.spec close-requires returns returns-2 returns-3)
+pub held_first_spec : {M : Type 1} → statement M
+held_first_spec = tie.close (tie.spec close-requires returns returns-2 returns-3)

@@ -11,36 +11,36 @@ use Rattle.node_reader.specs.NodesSoFar.{nodes_refused}
 use Rattle.node_reader.proofs.nodes_at.Statement.{statement}
 use Rattle.node_reader.proofs.nodes_at.Tie as tie
 
-count-at-requires : tie.Need-count-at-requires
+count-at-requires : tie.Need-count_at-r-requires
 count-at-requires c κs = search rules
 
-enum-known-r : tie.Need-enum-known-r
+enum-known-r : tie.Need-enum_known-r
 enum-known-r c = search rules
 
-enum_told : tie.Need-enum-told
+enum_told : tie.Need-enum_told-1
 enum_told c = search rules
 
-no-nodes-requires : tie.Need-no-nodes-requires
+no-nodes-requires : tie.Need-no_nodes-requires
 no-nodes-requires c κs = search rules
 
-returns : tie.Need-returns
+returns : tie.Need-returns-in_default
 unfolding nodes_at
-returns c = let a = c.before.before.before.before.before.args in
-    let told = c.before.enum_told.given.1 in
-    nodes_refused (nodes_at a.facts (rules_in a.rules.now a.rule-count) a.s.now a.at) a.s.now c.no_nodes_lem.result _ c.no_nodes_lem.ensures told
-    (sym (refused_then c.before.before.before.count_at.ensures _ told))
+returns c = let a = c.args in
+    let told = c.in_default.is in
+    nodes_refused (nodes_at a.facts (rules_in a.rules.now a.rule_count) a.s.now a.at) a.s.now c.no_nodes.result _ c.no_nodes.ensures told
+    (sym (refused_then c.count_at-r.ensures _ told))
 
-nodes-from-requires : tie.Need-nodes-from-requires
-nodes-from-requires c κs = let a = c.before.before.before.before.before.args in
-    let n = (count_gets a.s.now a.at min_nodes max_nodes 7).holds _ _ (answer_got c.before.before.before.count_at.ensures c.before.r.given.1) in
+nodes-from-requires : tie.Need-nodes_from-requires
+nodes-from-requires c κs = let a = c.args in
+    let n = (count_gets a.s.now a.at min_nodes max_nodes 7).holds _ _ (answer_got c.count_at-r.ensures c.in-Got.is) in
     (n.0.within, omega arith, omega arith, n.1, n.2)
 
-returns-2 : tie.Need-returns-2
+returns-2 : tie.Need-returns
 unfolding nodes_at
-returns-2 c = rw (got_then c.before.before.before.before.count_at.ensures _ c.before.before.r.given.1) c.nodes-from.ensures
+returns-2 c = rw (got_then c.count_at-r.ensures _ c.in-Got.is) c.nodes_from.ensures
 
-pub nodes-at-spec : {M : Type 1} → statement M
-nodes-at-spec =
+pub nodes_at_spec : {M : Type 1} → statement M
+nodes_at_spec =
     tie.close
     (tie.spec
     count-at-requires
