@@ -14,7 +14,7 @@ use packing::Numbers;
 use sheet_types::{Configuration, TABLE_END, THREADS};
 
 // A node to visit with at most eight threads beside it, in ascending order.
-#[derive(Drop)]
+#[derive(Clone, Copy)]
 pub struct NodeBeside {
     pub node: u16,
     pub count: u8,
