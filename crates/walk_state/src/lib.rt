@@ -6,7 +6,7 @@ use collected_moves::{Caps, Running};
 
 // What stays the same while the moves of one member are collected: how many facts and nodes the sheet has, the member's
 // store, where its moves begin, and the caps.
-#[derive(Drop)]
+#[derive(Clone, Copy)]
 pub struct Basis {
     pub facts: u16,
     pub nodes: usize,
