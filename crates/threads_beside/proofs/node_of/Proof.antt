@@ -5,11 +5,11 @@ use Rattle.threads_beside.specs.ThreadsBeside.{placed}
 use Rattle.threads_beside.proofs.node_of.Statement.{statement}
 use Rattle.threads_beside.proofs.node_of.Tie as tie
 
-configuration-of-requires : tie.Need-configuration-of-requires
+configuration-of-requires : tie.Need-configuration_of-at-requires
 configuration-of-requires c κs = search rules
 
 returns : tie.Need-returns
-returns c = let x = c.before.configuration-of.ensures in (ap placed x.0, x.1)
+returns c = let x = c.configuration_of-at.ensures in (ap placed x.0, x.1)
 
-pub node-of-spec : {M : Type 1} → statement M
-node-of-spec = tie.close (tie.spec configuration-of-requires returns)
+pub node_of_spec : {M : Type 1} → statement M
+node_of_spec = tie.close (tie.spec configuration-of-requires returns)

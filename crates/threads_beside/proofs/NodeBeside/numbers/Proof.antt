@@ -11,5 +11,5 @@ numbers-requires c κs = search rules
 returns : tie.Need-returns
 returns c = let x = c.numbers.ensures in (x.0, ap placed x.1)
 
-pub numbers-spec : {M : Type 1} → statement M
-numbers-spec = tie.close (tie.spec numbers-requires returns)
+pub numbers_spec : {M : Type 1} → statement M
+numbers_spec = tie.close (tie.spec numbers-requires returns)
