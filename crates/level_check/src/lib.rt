@@ -16,7 +16,7 @@ use sheet_types::{Configuration, Sheet};
 const MOST_LEVELS: usize = 4096;
 
 // What a report says: SAME or DIFF, its round, and the places of both starts.
-#[derive(Drop)]
+#[derive(Clone, Copy)]
 pub struct Claim {
     pub same: bool,
     pub round: usize,
@@ -39,7 +39,7 @@ pub enum Checked {
 
 // The first level that is equal to the next; the first that separates the starts, or none; the first that agrees with the
 // next on the members listed. Not whole where there was no room.
-#[derive(Drop)]
+#[derive(Clone, Copy)]
 struct Levels {
     whole: bool,
     last: usize,

@@ -7,34 +7,34 @@ use Rattle.level_check.specs.Checking.{too_large}
 use Rattle.level_check.proofs.check.Statement.{statement}
 use Rattle.level_check.proofs.check.Tie as tie
 
-slice-aggregate-reach : tie.Need-slice-aggregate-reach
+slice-aggregate-reach : tie.Need-slice_bounds-reach-end
 slice-aggregate-reach c = search rules
 
-reach-requires : tie.Need-reach-requires
+reach-requires : tie.Need-reach-reached-requires
 reach-requires c κs = search rules
 
-returns : tie.Need-returns
+returns : tie.Need-returns-then-not-reached
 returns c = too_large
 
-slice-aggregate-count : tie.Need-slice-aggregate-count
+slice-aggregate-count : tie.Need-slice_bounds-count-end
 slice-aggregate-count c = search rules
 
-count-requires : tie.Need-count-requires
+count-requires : tie.Need-count-n-requires
 count-requires c κs = search rules
 
-slice-aggregate-check-levels : tie.Need-slice-aggregate-check-levels
+slice-aggregate-check-levels : tie.Need-slice_bounds-check_levels-end
 slice-aggregate-check-levels c = search rules
 
-check-levels-requires : tie.Need-check-levels-requires
+check-levels-requires : tie.Need-check_levels-requires
 check-levels-requires c κs =
-    let few = tells_true c.before.before.before.before.before.before.reach.ensures (not-false _ c.before.before.before.if1.false) in
-    omega (arith, few, c.before.count.ensures)
+    let few = tells_true c.reach-reached.ensures (not-false _ c.if-not-reached.false) in
+    omega (arith, few, c.count-n.ensures)
 
-returns-2 : tie.Need-returns-2
+returns-2 : tie.Need-returns
 returns-2 c = search rules
 
-pub check-spec : {M : Type 1} → statement M
-check-spec =
+pub check_spec : {M : Type 1} → statement M
+check_spec =
     tie.close
     (tie.spec
     slice-aggregate-reach

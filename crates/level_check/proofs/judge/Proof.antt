@@ -5,38 +5,30 @@ use Rattle.level_check.proofs.judge.Statement.{statement}
 use Rattle.level_check.proofs.judge.Tie as tie
 
 -- ---- the stages of the function, each from a later one
-abbrev start-of-round-of : tie.After-round-of → tie.Start
-start-of-round-of s = s.before.before.before.before.before.before
-
-abbrev round-of-of-else4 : tie.Else4 → tie.After-round-of
-round-of-of-else4 s = s.before.before.before.before.before
-
 -- ---- what is left to show
-returns : tie.Need-returns
+returns : tie.Need-returns-then-not-found
 returns c = too_large
 
-returns-2 : tie.Need-returns-2
+returns-2 : tie.Need-returns-then-claim-same
 returns-2 c = verdict_differs
 
-round-of-requires : tie.Need-round-of-requires
+round-of-requires : tie.Need-round_of-requires
 round-of-requires c κs = search rules
 
-returns-3 : tie.Need-returns-3
+returns-3 : tie.Need-returns-then-claim-round_of
 returns-3 c = round_differs
 
-returns-4 : tie.Need-returns-4
+returns-4 : tie.Need-returns-then-found-claim
 returns-4 c = round_differs
 
-returns-5 : tie.Need-returns-5
+returns-5 : tie.Need-returns-then-not-classes
 returns-5 c = classes_differ
 
-returns-6 : tie.Need-returns-6
+returns-6 : tie.Need-returns
 returns-6 c =
-    let at-else4 = c.before in
-    let start = start-of-round-of (round-of-of-else4 at-else4) in
-    agreed start.pre.0 start.pre.1 at-else4.if4.false start.pre.2
+    agreed c.requires.0 c.requires.1 c.if-found-claim.false c.requires.2
 
-pub judge-spec : {M : Type 1} → statement M
-judge-spec =
+pub judge_spec : {M : Type 1} → statement M
+judge_spec =
     tie.close
     (tie.spec returns returns-2 round-of-requires returns-3 returns-4 returns-5 returns-6)

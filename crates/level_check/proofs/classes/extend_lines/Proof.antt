@@ -6,44 +6,44 @@ use borrow.Author.Rules.{rules}
 use Rattle.level_check.proofs.classes.extend_lines.Statement.{statement}
 use Rattle.level_check.proofs.classes.extend_lines.Tie as tie
 
-abbrev invariant-loop : tie.invariant-loop
+abbrev invariant-loop : tie.invariant-loop-p
 invariant-loop w₀ n e p₀ w p = (p ≤ n) × (length w ≡ length w₀)
 
-abbrev decreases-loop : tie.decreases-loop
+abbrev decreases-loop : tie.decreases-loop-p
 decreases-loop w₀ n e p₀ w p = n - p
 
-make-empty-requires : tie.Need-make-empty-requires invariant-loop decreases-loop
+make-empty-requires : tie.Need-make_empty-requires invariant-loop decreases-loop
 make-empty-requires c κs = search rules
 
-loop-holds : tie.Need-loop-init invariant-loop decreases-loop
+loop-holds : tie.Need-loop-p-init invariant-loop decreases-loop
 loop-holds c = search rules
 
-extend-line-requires : tie.Need-extend-line-requires invariant-loop decreases-loop
+extend-line-requires : tie.Need-extend_line-requires invariant-loop decreases-loop
 extend-line-requires c κs = search rules
 
-same_length : tie.Need-same-length invariant-loop decreases-loop
+same_length : tie.Need-shape_of-w-then-not-extend_line invariant-loop decreases-loop
 same_length c = search rules
 
-returns : tie.Need-returns invariant-loop decreases-loop
+returns : tie.Need-returns-then-not-extend_line invariant-loop decreases-loop
 returns c = search rules
 
-add-p : tie.Need-overflow-add-p invariant-loop decreases-loop
+add-p : tie.Need-overflow_add-p invariant-loop decreases-loop
 add-p c = search rules
 
-loop-less : tie.Need-loop-smaller invariant-loop decreases-loop
+loop-less : tie.Need-loop-p-smaller invariant-loop decreases-loop
 loop-less c = search rules
 
-loop-again : tie.Need-loop-preserved invariant-loop decreases-loop
+loop-again : tie.Need-loop-p-preserved invariant-loop decreases-loop
 loop-again c = search rules
 
-same-length-2 : tie.Need-same-length-2 invariant-loop decreases-loop
+same-length-2 : tie.Need-shape_of-w invariant-loop decreases-loop
 same-length-2 c = search rules
 
-returns-2 : tie.Need-returns-2 invariant-loop decreases-loop
+returns-2 : tie.Need-returns invariant-loop decreases-loop
 returns-2 c = search rules
 
-pub extend-lines-spec : {M : Type 1} → statement M
-extend-lines-spec =
+pub extend_lines_spec : {M : Type 1} → statement M
+extend_lines_spec =
     tie.close
     (tie.spec
     invariant-loop

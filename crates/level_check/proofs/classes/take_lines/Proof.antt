@@ -6,38 +6,38 @@ use borrow.Author.Rules.{rules}
 use Rattle.level_check.proofs.classes.take_lines.Statement.{statement}
 use Rattle.level_check.proofs.classes.take_lines.Tie as tie
 
-abbrev invariant-loop : tie.invariant-loop
+abbrev invariant-loop : tie.invariant-loop-p
 invariant-loop w₀ n changed₀ p₀ w changed p = (p ≤ n) × (changed ≤ p) × (length w ≡ length w₀)
 
-abbrev decreases-loop : tie.decreases-loop
+abbrev decreases-loop : tie.decreases-loop-p
 decreases-loop w₀ n changed₀ p₀ w changed p = n - p
 
-loop-holds : tie.Need-loop-init invariant-loop decreases-loop
+loop-holds : tie.Need-loop-p-init invariant-loop decreases-loop
 loop-holds c = search rules
 
-take-line-requires : tie.Need-take-line-requires invariant-loop decreases-loop
+take-line-requires : tie.Need-take_line-changed-requires invariant-loop decreases-loop
 take-line-requires c κs = search rules
 
-add-changed : tie.Need-overflow-add-changed invariant-loop decreases-loop
+add-changed : tie.Need-overflow_add-changed invariant-loop decreases-loop
 add-changed c = search rules
 
-add-p : tie.Need-overflow-add-p invariant-loop decreases-loop
+add-p : tie.Need-overflow_add-p invariant-loop decreases-loop
 add-p c = search rules
 
-loop-less : tie.Need-loop-smaller invariant-loop decreases-loop
+loop-less : tie.Need-loop-p-smaller invariant-loop decreases-loop
 loop-less c = search rules
 
-loop-again : tie.Need-loop-preserved invariant-loop decreases-loop
+loop-again : tie.Need-loop-p-preserved invariant-loop decreases-loop
 loop-again c = search rules
 
-same_length : tie.Need-same-length invariant-loop decreases-loop
+same_length : tie.Need-shape_of-w invariant-loop decreases-loop
 same_length c = search rules
 
 returns : tie.Need-returns invariant-loop decreases-loop
 returns c = search rules
 
-pub take-lines-spec : {M : Type 1} → statement M
-take-lines-spec =
+pub take_lines_spec : {M : Type 1} → statement M
+take_lines_spec =
     tie.close
     (tie.spec
     invariant-loop
