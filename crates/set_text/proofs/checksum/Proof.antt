@@ -9,48 +9,48 @@ use Rattle.set_text.proofs.checksum.Statement.{statement}
 use Rattle.set_text.proofs.checksum.Tie as tie
 use Rattle.work_layout.specs.WorkLayout.{members_at}
 
-abbrev invariant-loop : tie.invariant-loop
+abbrev invariant-loop : tie.invariant-loop-i
 invariant-loop w n s₀ i₀ s i = (i ≤ n) × (s ≡ mix_members w i (mix_all w members_at (3 * n) 0))
 
-abbrev decreases-loop : tie.decreases-loop
+abbrev decreases-loop : tie.decreases-loop-i
 decreases-loop w n s₀ i₀ s i = n - i
 
-mul-mix-numbers : tie.Need-overflow-mul-mix-numbers invariant-loop decreases-loop
+mul-mix-numbers : tie.Need-overflow_mul-n invariant-loop decreases-loop
 mul-mix-numbers c = search rules
 
-mix-numbers-requires : tie.Need-mix-numbers-requires invariant-loop decreases-loop
+mix-numbers-requires : tie.Need-mix_numbers-s-requires invariant-loop decreases-loop
 mix-numbers-requires c κs = search rules
 
-loop-holds : tie.Need-loop-init invariant-loop decreases-loop
+loop-holds : tie.Need-loop-i-init invariant-loop decreases-loop
 loop-holds c =
-    let args = c.before.before.args in
-    (search rules, c.mix-numbers.ensures ∙ members_none args.work.now (mix_all args.work.now members_at (3 * args.n) 0))
+    let args = c.args in
+    (search rules, c.mix_numbers-s.ensures ∙ members_none args.work.now (mix_all args.work.now members_at (3 * args.n) 0))
 
-mix-moves-requires : tie.Need-mix-moves-requires invariant-loop decreases-loop
+mix-moves-requires : tie.Need-mix_moves-s-requires invariant-loop decreases-loop
 mix-moves-requires c κs = search rules
 
-add-i : tie.Need-overflow-add-i invariant-loop decreases-loop
+add-i : tie.Need-overflow_add-i invariant-loop decreases-loop
 add-i c = search rules
 
-loop-less : tie.Need-loop-smaller invariant-loop decreases-loop
+loop-less : tie.Need-loop-i-smaller invariant-loop decreases-loop
 loop-less c = search rules
 
-loop-again : tie.Need-loop-preserved invariant-loop decreases-loop
+loop-again : tie.Need-loop-i-preserved invariant-loop decreases-loop
 loop-again c =
-    let args = c.before.before.before.before.before.args in
-    let at-loop = c.before.before.loop in (
+    let args = c.args in
+    let at-loop = c.loop-i in (
       search rules,
-      rw (c.mix-moves.ensures, at-loop.invariant.1) (members_next args.work.now at-loop.i (mix_all args.work.now members_at (3 * args.n) 0)),
+      rw (c.mix_moves-s.ensures, at-loop.invariant.1) (members_next args.work.now at-loop.i (mix_all args.work.now members_at (3 * args.n) 0)),
     )
 
 returns : tie.Need-returns invariant-loop decreases-loop
 returns c =
-    let args = c.before.before.before.before.args in
-    let e : c.before.loop.i ≡ args.n = omega arith in
-    rw e at c.before.loop.invariant.1
+    let args = c.args in
+    let e : c.loop-i.i ≡ args.n = omega arith in
+    rw e at c.loop-i.invariant.1
 
-pub checksum-spec : {M : Type 1} → statement M
-checksum-spec =
+pub checksum_spec : {M : Type 1} → statement M
+checksum_spec =
     tie.close
     (tie.spec
     invariant-loop
