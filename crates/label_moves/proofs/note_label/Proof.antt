@@ -9,30 +9,27 @@ use Rattle.label_moves.specs.LabelMoveLaws.{noted_named}
 use Rattle.label_moves.proofs.note_label.Statement.{statement}
 use Rattle.label_moves.proofs.note_label.Tie as tie
 
-closure-at-requires : tie.Need-closure-at-requires
+closure-at-requires : tie.Need-closure_at-store-requires
 closure-at-requires c κs = search rules
 
-numbers-requires : tie.Need-numbers-requires
+numbers-requires : tie.Need-numbers-x-requires
 numbers-requires c κs = search rules
 
 note-requires : tie.Need-note-requires
 note-requires c κs = search rules
 
-same_length : tie.Need-same-length
+same_length : tie.Need-shape_of-work
 same_length c = search rules
 
 returns : tie.Need-returns
 returns c =
-    let noted = c.before.before in
-    let packed = noted.before.before in
-    let closed = packed.before.before in
-    let g = closed.before.before.before.before.args in
-    let n = noted.note in
-    let x = packed.numbers in
-    let k = closed.closure_at in
-    noted_named g.work.now g.b.first g.s g.b.caps n.new.0 n.result g.a g.a x.result k.result
+    let g = c.args in
+    let n = c.note in
+    let x = c.numbers-x in
+    let k = c.closure_at-store in
+    noted_named g.work.now g.b.first g.s g.b.caps n.new.work n.result g.a g.a x.result k.result
     (get_or g.work.now (bit_or g.b.store g.a) 0 % 65536) (node_beside g.e).threads refl x.ensures.1 k.ensures.entry n.ensures
 
-pub note-label-spec : {M : Type 1} → statement M
-note-label-spec =
+pub note_label_spec : {M : Type 1} → statement M
+note_label_spec =
     tie.close (tie.spec closure-at-requires numbers-requires note-requires same_length returns)
