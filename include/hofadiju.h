@@ -2,7 +2,7 @@
  * the quotation desk's (document 02, card 3), in the end or after so many rounds (document 02, card 13),
  * or all starts of a sheet together (document 02, card 1).
  *
- * Link with target/staticlib/libhofadiju.a, which `rt staticlib hofadiju` writes (x86-64 Linux). There are
+ * Link with target/staticlib/libhofadiju.a, which `tools/staticlib` writes (x86-64 Linux). There are
  * five calls, and a function that says which version of the library is linked. They keep no state: any
  * number of threads may call them at the same time, each with its own slices. They allocate nothing.
  * c/compare.c is an example.

@@ -1,4 +1,4 @@
-//! Finds the static library that `rt staticlib hofadiju` writes.
+//! Finds the static library that `tools/staticlib` writes.
 //! Another folder may be named by the variable HOFADIJU_LIB_DIR.
 
 use std::env;
@@ -15,7 +15,7 @@ fn main() {
     println!("cargo:rerun-if-changed={}", archive.display());
     if !archive.is_file() {
         eprintln!(
-            "{} is missing: run `rt staticlib hofadiju` in the repository's top folder, or name the \
+            "{} is missing: run `tools/staticlib` in the repository's top folder, or name the \
              folder that holds libhofadiju.a in HOFADIJU_LIB_DIR",
             archive.display()
         );

@@ -17,9 +17,9 @@ use answers::{Answer, Reported};
 use call_frame::Begun;
 use case_lines::{Call, Case, Line, Parsed};
 use level_check::{Checked, Claim};
-use libc::{STDIN_FILENO, STDOUT_FILENO};
 use report_fields::byte_in;
 use sheet_types::{Configuration, Section, Sheet};
+use std::io::{self, Stdout, Write};
 
 const LINE_FEED: u8 = 10;
 
@@ -33,11 +33,11 @@ fn room() -> [u8; 262144]
 }
 
 // Writes what reading a sheet and choosing two starts gives.
-fn write_reading(sheet: &[u8], left: usize, right: usize) {
+fn write_reading(output: &mut Stdout, sheet: &[u8], left: usize, right: usize) -> io::Result<()> {
     let mut out = [0u8; 128];
     let n = reading_text::reading_line(sheet, left, right, &mut out);
-    io::write_all(STDOUT_FILENO, b" ");
-    io::write_all(STDOUT_FILENO, &out[..n]);
+    output.write_all(b" ")?;
+    output.write_all(&out[..n])
 }
 
 // The line of the set of two starts of a sheet, and its length.
@@ -55,11 +55,17 @@ fn put_set(sheet: &[u8], left: usize, right: usize, work: &mut [u32], out: &mut 
 }
 
 // Writes the set of two starts of a sheet: its counts and checksum, or the refusal.
-fn write_set(sheet: &[u8], left: usize, right: usize, work: &mut [u32]) {
+fn write_set(
+    output: &mut Stdout,
+    sheet: &[u8],
+    left: usize,
+    right: usize,
+    work: &mut [u32],
+) -> io::Result<()> {
     let mut out = [0u8; 128];
     let n = put_set(sheet, left, right, work, &mut out);
-    io::write_all(STDOUT_FILENO, b" ");
-    io::write_all(STDOUT_FILENO, &out[..n]);
+    output.write_all(b" ")?;
+    output.write_all(&out[..n])
 }
 
 // The start with this number, the first where there is none.
@@ -86,13 +92,20 @@ fn check_report(sheet: Sheet, left: usize, right: usize, claim: Claim, answer: &
 }
 
 // Writes what the levels say of a report on two starts of a sheet.
-fn write_levels(sheet: &[u8], left: usize, right: usize, reported: Reported, answer: &[u8]) {
+fn write_levels(
+    output: &mut Stdout,
+    sheet: &[u8],
+    left: usize,
+    right: usize,
+    reported: Reported,
+    answer: &[u8],
+) -> io::Result<()> {
     let mut out = [0u8; 128];
     let read = sheet_reader::read_choice(sheet, left, right);
     let held = read.sheet;
     let checked = check_report(held, left, right, claim_of(reported), answer);
     let n = level_text::checked_line(checked, &mut out);
-    io::write_all(STDOUT_FILENO, &out[..n]);
+    output.write_all(&out[..n])
 }
 
 // Whether the same is said of two reports.
@@ -119,18 +132,19 @@ fn same_answer(r: Answer, s: Answer) -> bool {
 }
 
 // Writes the desk's refusal, where the other call gave something else; there is no other way in which the two may differ.
-fn write_difference(desk: Answer) {
+fn write_difference(output: &mut Stdout, desk: Answer) -> io::Result<()> {
     let mut out = [0u8; 128];
     match desk {
         Answer::Report(_) => {
-            io::write_all(STDOUT_FILENO, b"DESK DIFFERS\n");
+            output.write_all(b"DESK DIFFERS\n")?;
         }
         Answer::Refused(number, place) => {
             let n = text::refused_line(&mut out, number, place);
-            io::write_all(STDOUT_FILENO, b"DESK ");
-            io::write_all(STDOUT_FILENO, &out[..n]);
+            output.write_all(b"DESK ")?;
+            output.write_all(&out[..n])?;
         }
     }
+    Ok(())
 }
 
 // Whether a slice begins with these bytes.
@@ -139,58 +153,75 @@ fn begins_with(s: &[u8], bytes: &[u8]) -> bool {
     if s.len() < n {
         return false;
     }
-    check::same(bytes, &s[..n])
+    *bytes == s[..n]
 }
 
 // Writes what the desk's call gives beside document 01's, of which the answer and the answer slice are given: whether both are the
 // same whole, in an answer slice with the room that suffices for the desk, or the refusal.
-fn write_desk(sheet: &[u8], left: usize, right: usize, work: &mut [u32], r: Answer, answer: &[u8]) {
+fn write_desk(
+    output: &mut Stdout,
+    sheet: &[u8],
+    left: usize,
+    right: usize,
+    work: &mut [u32],
+    r: Answer,
+    answer: &[u8],
+) -> io::Result<()> {
     let mut bytes = [0u8; 1277];
     let desk = compare_call::compare_desk(sheet, left, right, &mut bytes, work);
     if same_answer(desk, r) && begins_with(answer, &bytes) {
-        io::write_all(STDOUT_FILENO, b"DESK AGREES\n");
+        output.write_all(b"DESK AGREES\n")?;
     } else {
-        write_difference(desk);
+        write_difference(output, desk)?;
     }
+    Ok(())
 }
 
 // Writes the report on two starts of a sheet, or the refusal, what the desk's call gives, and what the levels say of a report.
-fn write_comparison(sheet: &[u8], left: usize, right: usize, work: &mut [u32]) {
+fn write_comparison(
+    output: &mut Stdout,
+    sheet: &[u8],
+    left: usize,
+    right: usize,
+    work: &mut [u32],
+) -> io::Result<()> {
     let mut answer = [0u8; 10237];
     let mut out = [0u8; 65536];
     let r = compare_call::compare(sheet, left, right, &mut answer, work);
     let k = outcome_text::outcome_text(r, &answer, &mut out);
-    io::write_all(STDOUT_FILENO, b"\n");
-    io::write_all(STDOUT_FILENO, &out[..k]);
-    write_desk(sheet, left, right, work, r, &answer);
+    output.write_all(b"\n")?;
+    output.write_all(&out[..k])?;
+    write_desk(output, sheet, left, right, work, r, &answer)?;
     match r {
-        Answer::Report(x) => write_levels(sheet, left, right, x, &answer),
-        Answer::Refused(_, _) => {}
+        Answer::Report(x) => write_levels(output, sheet, left, right, x, &answer),
+        Answer::Refused(_, _) => Ok(()),
     }
 }
 
 // Writes a space and a number.
-fn write_number(n: usize) {
+fn write_number(output: &mut Stdout, n: usize) -> io::Result<()> {
     let mut out = [0u8; 32];
     let k = text::put_field(&mut out, 0, n as u64);
-    io::write_all(STDOUT_FILENO, &out[..k]);
+    output.write_all(&out[..k])
 }
 
 // Writes a part of a slice, where it has one from the first place to the second.
-fn write_part(s: &[u8], from: usize, to: usize) {
+fn write_part(output: &mut Stdout, s: &[u8], from: usize, to: usize) -> io::Result<()> {
     if from <= to && to <= s.len() {
-        io::write_all(STDOUT_FILENO, &s[from..to]);
+        output.write_all(&s[from..to])?;
     }
+    Ok(())
 }
 
 // Writes the lines of the members at the front of an answer: what the text of a report has between its first line, of 7 bytes, and its
 // last, of 8.
-fn write_members(answer: &[u8]) {
+fn write_members(output: &mut Stdout, answer: &[u8]) -> io::Result<()> {
     let mut out = [0u8; 65536];
     let n = report_text::report_text(true, 0, answer, &mut out);
     if 8 <= n {
-        write_part(&out, 7, n - 8);
+        write_part(output, &out, 7, n - 8)?;
     }
+    Ok(())
 }
 
 // The class of start i, in the bytes that follow the last member.
@@ -203,14 +234,14 @@ fn class_in(classes: &[u8], i: usize) -> usize {
 }
 
 // Writes the classes of k starts.
-fn write_classes(classes: &[u8], k: usize) {
-    io::write_all(STDOUT_FILENO, b"STARTS");
+fn write_classes(output: &mut Stdout, classes: &[u8], k: usize) -> io::Result<()> {
+    output.write_all(b"STARTS")?;
     let mut i: usize = 0;
     while i < k {
-        write_number(class_in(classes, i));
+        write_number(output, class_in(classes, i))?;
         i += 1;
     }
-    io::write_all(STDOUT_FILENO, b"\n");
+    output.write_all(b"\n")
 }
 
 // What the comparing call finds of two starts.
@@ -268,46 +299,69 @@ fn pairs_agree(sheet: &[u8], k: usize, classes: &[u8], work: &mut [u32]) -> bool
 }
 
 // Writes the members and the classes of k starts of an answer of this length, and whether every two starts agree with them.
-fn write_answer(sheet: &[u8], k: usize, length: usize, answer: &[u8], work: &mut [u32]) {
+fn write_answer(
+    output: &mut Stdout,
+    sheet: &[u8],
+    k: usize,
+    length: usize,
+    answer: &[u8],
+    work: &mut [u32],
+) -> io::Result<()> {
     if 16 < k {
-        return;
+        return Ok(());
     }
     if length < 2 * k {
-        return;
+        return Ok(());
     }
     if answer.len() < length {
-        return;
+        return Ok(());
     }
     let end = length - 2 * k;
-    write_members(&answer[..end]);
-    write_classes(&answer[end..length], k);
+    write_members(output, &answer[..end])?;
+    write_classes(output, &answer[end..length], k)?;
     if pairs_agree(sheet, k, &answer[end..length], work) {
-        io::write_all(STDOUT_FILENO, b"PAIRS AGREE\n");
+        output.write_all(b"PAIRS AGREE\n")?;
     } else {
-        io::write_all(STDOUT_FILENO, b"PAIRS DIFFER\n");
+        output.write_all(b"PAIRS DIFFER\n")?;
     }
+    Ok(())
 }
 
 // Writes the round and the length of a grouping, and its answer.
-fn write_grouping(sheet: &[u8], k: usize, x: Grouped, answer: &[u8], work: &mut [u32]) {
+fn write_grouping(
+    output: &mut Stdout,
+    sheet: &[u8],
+    k: usize,
+    x: Grouped,
+    answer: &[u8],
+    work: &mut [u32],
+) -> io::Result<()> {
     let mut out = [0u8; 128];
     let n = text::two_number_line(&mut out, b"CLASSES", x.round as u64, x.length as u64);
-    io::write_all(STDOUT_FILENO, &out[..n]);
-    write_answer(sheet, k, x.length, answer, work);
+    output.write_all(&out[..n])?;
+    write_answer(output, sheet, k, x.length, answer, work)
 }
 
 // Writes a refusal, and after 21 whether the comparing call reports on every two of k starts.
-fn write_refusal(sheet: &[u8], k: usize, number: u8, place: usize, work: &mut [u32]) {
+fn write_refusal(
+    output: &mut Stdout,
+    sheet: &[u8],
+    k: usize,
+    number: u8,
+    place: usize,
+    work: &mut [u32],
+) -> io::Result<()> {
     let mut out = [0u8; 128];
     let n = text::refused_line(&mut out, number, place);
-    io::write_all(STDOUT_FILENO, &out[..n]);
+    output.write_all(&out[..n])?;
     if number == 21 {
         if pairs_agree(sheet, k, &out[..0], work) {
-            io::write_all(STDOUT_FILENO, b"PAIRS REPORTED\n");
+            output.write_all(b"PAIRS REPORTED\n")?;
         } else {
-            io::write_all(STDOUT_FILENO, b"PAIRS REFUSED\n");
+            output.write_all(b"PAIRS REFUSED\n")?;
         }
     }
+    Ok(())
 }
 
 // The call for all starts, with slices no longer than these lengths.
@@ -324,45 +378,53 @@ fn group(
 }
 
 // Writes what the call for all starts gives.
-fn write_all_starts(sheet: &[u8], room: usize, numbers: usize, work: &mut [u32]) {
+fn write_all_starts(
+    output: &mut Stdout,
+    sheet: &[u8],
+    room: usize,
+    numbers: usize,
+    work: &mut [u32],
+) -> io::Result<()> {
     let mut answer = [0u8; 6690];
     let read = sheet_reader::read_sheet(sheet);
     let held = read.sheet;
     let k = held.start_count as usize;
-    io::write_all(STDOUT_FILENO, b"\n");
+    output.write_all(b"\n")?;
     let r = group(sheet, room, numbers, &mut answer, work);
     match r {
-        AllAnswer::Classes(x) => write_grouping(sheet, k, x, &answer, work),
-        AllAnswer::Refused(number, place) => write_refusal(sheet, k, number, place, work),
+        AllAnswer::Classes(x) => write_grouping(output, sheet, k, x, &answer, work),
+        AllAnswer::Refused(number, place) => write_refusal(output, sheet, k, number, place, work),
     }
 }
 
 // Writes a verdict.
-fn write_verdict(verdict: Verdict) {
+fn write_verdict(output: &mut Stdout, verdict: Verdict) -> io::Result<()> {
     match verdict {
         Verdict::Same => {
-            io::write_all(STDOUT_FILENO, b"SAME");
+            output.write_all(b"SAME")?;
         }
         Verdict::Diff => {
-            io::write_all(STDOUT_FILENO, b"DIFF");
+            output.write_all(b"DIFF")?;
         }
         Verdict::Open => {
-            io::write_all(STDOUT_FILENO, b"OPEN");
+            output.write_all(b"OPEN")?;
         }
     }
+    Ok(())
 }
 
 // Writes the numbers that are returned of an answer after so many rounds, and its members.
-fn write_reached(x: Reached, answer: &[u8]) {
+fn write_reached(output: &mut Stdout, x: Reached, answer: &[u8]) -> io::Result<()> {
     let verdict = x.verdict;
-    write_verdict(verdict);
-    write_number(x.classes);
-    write_number(x.members);
-    write_number(x.length);
-    io::write_all(STDOUT_FILENO, b"\n");
+    write_verdict(output, verdict)?;
+    write_number(output, x.classes)?;
+    write_number(output, x.members)?;
+    write_number(output, x.length)?;
+    output.write_all(b"\n")?;
     if x.length <= answer.len() {
-        write_members(&answer[..x.length]);
+        write_members(output, &answer[..x.length])?;
     }
+    Ok(())
 }
 
 // Whether a slice begins with the first n bytes of another.
@@ -386,24 +448,32 @@ fn same_numbers(r: RoundsAnswer, s: RoundsAnswer) -> bool {
 }
 
 // Writes what the desk's call gives beside an answer after so many rounds: whether both are the same whole, or its refusal.
-fn write_rounds_desk(sheet: &[u8], rounds: u64, r: RoundsAnswer, answer: &[u8], work: &mut [u32]) {
+fn write_rounds_desk(
+    output: &mut Stdout,
+    sheet: &[u8],
+    rounds: u64,
+    r: RoundsAnswer,
+    answer: &[u8],
+    work: &mut [u32],
+) -> io::Result<()> {
     let mut bytes = [0u8; 834];
     let mut out = [0u8; 128];
     let desk = rounds_call::compare_rounds_desk(sheet, 0, 1, rounds, &mut bytes, work);
     match desk {
         RoundsAnswer::After(x) => {
             if same_numbers(desk, r) && begins_with_part(answer, &bytes, x.length) {
-                io::write_all(STDOUT_FILENO, b"DESK AGREES\n");
+                output.write_all(b"DESK AGREES\n")?;
             } else {
-                io::write_all(STDOUT_FILENO, b"DESK DIFFERS\n");
+                output.write_all(b"DESK DIFFERS\n")?;
             }
         }
         RoundsAnswer::Refused(number, place) => {
             let n = text::refused_line(&mut out, number, place);
-            io::write_all(STDOUT_FILENO, b"DESK ");
-            io::write_all(STDOUT_FILENO, &out[..n]);
+            output.write_all(b"DESK ")?;
+            output.write_all(&out[..n])?;
         }
     }
+    Ok(())
 }
 
 // Whether a verdict is that of a report.
@@ -431,16 +501,17 @@ fn is_result(r: RoundsAnswer, bytes: &[u8], s: Answer, report: &[u8]) -> bool {
 }
 
 // Writes whether the largest number of rounds gives what the comparing call does.
-fn write_most(sheet: &[u8], work: &mut [u32]) {
+fn write_most(output: &mut Stdout, sheet: &[u8], work: &mut [u32]) -> io::Result<()> {
     let mut bytes = [0u8; 6658];
     let mut report = [0u8; 10237];
     let r = rounds_call::compare_rounds(sheet, 0, 1, MOST_ROUNDS, &mut bytes, work);
     let s = compare_call::compare(sheet, 0, 1, &mut report, work);
     if is_result(r, &bytes, s, &report) {
-        io::write_all(STDOUT_FILENO, b"MOST AGREES\n");
+        output.write_all(b"MOST AGREES\n")?;
     } else {
-        io::write_all(STDOUT_FILENO, b"MOST DIFFERS\n");
+        output.write_all(b"MOST DIFFERS\n")?;
     }
+    Ok(())
 }
 
 // The call for so many rounds of starts 0 and 1, with an answer slice no longer than this length.
@@ -456,42 +527,56 @@ fn round_starts(
 }
 
 // Writes what the call for so many rounds gives of starts 0 and 1.
-fn write_rounds(sheet: &[u8], rounds: usize, room: usize, work: &mut [u32]) {
+fn write_rounds(
+    output: &mut Stdout,
+    sheet: &[u8],
+    rounds: usize,
+    room: usize,
+    work: &mut [u32],
+) -> io::Result<()> {
     let mut answer = [0u8; 6658];
     let mut out = [0u8; 128];
-    io::write_all(STDOUT_FILENO, b"\n");
+    output.write_all(b"\n")?;
     let r = round_starts(sheet, rounds as u64, room, &mut answer, work);
     match r {
         RoundsAnswer::After(x) => {
-            write_reached(x, &answer);
-            write_rounds_desk(sheet, rounds as u64, r, &answer, work);
-            write_most(sheet, work);
+            write_reached(output, x, &answer)?;
+            write_rounds_desk(output, sheet, rounds as u64, r, &answer, work)?;
+            write_most(output, sheet, work)?;
         }
         RoundsAnswer::Refused(number, place) => {
             let n = text::refused_line(&mut out, number, place);
-            io::write_all(STDOUT_FILENO, &out[..n]);
+            output.write_all(&out[..n])?;
         }
     }
+    Ok(())
 }
 
 // Writes what a call gives for a sheet and two numbers: two of its starts, the lengths of the slices, or a number of rounds and the length
 // of the answer slice.
-fn write_call(call: Call, sheet: &[u8], left: usize, right: usize, work: &mut [u32]) {
+fn write_call(
+    output: &mut Stdout,
+    call: Call,
+    sheet: &[u8],
+    left: usize,
+    right: usize,
+    work: &mut [u32],
+) -> io::Result<()> {
     match call {
-        Call::Read => write_reading(sheet, left, right),
-        Call::Set => write_set(sheet, left, right, work),
-        Call::Compare => write_comparison(sheet, left, right, work),
-        Call::All => write_all_starts(sheet, left, right, work),
-        Call::Rounds => write_rounds(sheet, left, right, work),
+        Call::Read => write_reading(output, sheet, left, right),
+        Call::Set => write_set(output, sheet, left, right, work),
+        Call::Compare => write_comparison(output, sheet, left, right, work),
+        Call::All => write_all_starts(output, sheet, left, right, work),
+        Call::Rounds => write_rounds(output, sheet, left, right, work),
     }
 }
 
-fn write_malformed() {
-    io::write_all(STDOUT_FILENO, b"MALFORMED\n");
+fn write_malformed(output: &mut Stdout) -> io::Result<()> {
+    output.write_all(b"MALFORMED\n")
 }
 
 // Writes a case's name, and what its call gives.
-fn run_case(line: &[u8], case: Case, work: &mut [u32])
+fn run_case(output: &mut Stdout, line: &[u8], case: Case, work: &mut [u32]) -> io::Result<()>
     requires { Inside line.now case }
 {
     let mut sheet = [0u8; 1024];
@@ -501,34 +586,34 @@ fn run_case(line: &[u8], case: Case, work: &mut [u32])
     let call = case.call;
     let parsed = case_lines::decode(&line[digits..], &mut sheet);
     let Parsed::Is(n) = parsed else {
-        write_malformed();
-        return;
+        return write_malformed(output);
     };
-    io::write_all(STDOUT_FILENO, &line[name..until]);
-    write_call(call, &sheet[..n], case.left, case.right, work);
+    output.write_all(&line[name..until])?;
+    write_call(output, call, &sheet[..n], case.left, case.right, work)
 }
 
-fn run_line(line: &[u8], work: &mut [u32]) {
+fn run_line(output: &mut Stdout, line: &[u8], work: &mut [u32]) -> io::Result<()> {
     let held = case_lines::line_of(line);
     match held {
-        Line::Passed => {}
-        Line::Malformed => write_malformed(),
-        Line::Holds(case) => run_case(line, case, work),
+        Line::Passed => Ok(()),
+        Line::Malformed => write_malformed(output),
+        Line::Holds(case) => run_case(output, line, case, work),
     }
 }
 
-fn run(text: &[u8], work: &mut [u32]) {
+fn run(output: &mut Stdout, text: &[u8], work: &mut [u32]) -> io::Result<()> {
     let mut at: usize = 0;
     while at < text.len() {
         let end = case_lines::end_from(text, at, LINE_FEED);
-        run_line(&text[at..end], work);
+        run_line(output, &text[at..end], work)?;
         at = case_lines::after_from(text, at, LINE_FEED);
     }
+    Ok(())
 }
 
-fn main() {
+fn main(rt: HostRuntime) -> io::Result<()> {
     let mut text = room();
     let mut work = work_layout::work_room();
-    let n = io::read_full(STDIN_FILENO, &mut text);
-    run(&text[..n], &mut work);
+    let n = input_bytes::read_full(&mut rt.stdin(), &mut text)?;
+    run(&mut rt.stdout(), &text[..n], &mut work)
 }

@@ -2,12 +2,12 @@
 // bytes, so one byte more is enough to refuse a longer input.
 #![tactic(auto)]
 
-use libc::{STDIN_FILENO, STDOUT_FILENO};
+use std::io::{self, Write};
 
-fn main() {
+fn main(rt: HostRuntime) -> io::Result<()> {
     let mut sheet = [0u8; 725];
     let mut out = [0u8; 65536];
-    let n = io::read_full(STDIN_FILENO, &mut sheet);
+    let n = input_bytes::read_full(&mut rt.stdin(), &mut sheet)?;
     let k = sheet_text::sheet_text(&sheet[..n], &mut out);
-    io::write_all(STDOUT_FILENO, &out[..k]);
+    rt.stdout().write_all(&out[..k])
 }
