@@ -198,10 +198,10 @@ module _ (v : List ℕ) (n m : ℕ) (a : List ℕ) (f : Forgotten v m a) (b : Li
         (chosen_in d c, omega (arith, size, x.chosen_in_lem c l), x.chosen_of c l))
         (λ i j li lj. (
           (λ e. store i (omega (arith, size))
-              ∙ F.same_Store i j (omega (arith, size)) (omega (arith, size)) (sym (class i (omega (arith, size))) ∙ e ∙ class j (omega (arith, size)))
+              ∙ F.same_store i j (omega (arith, size)) (omega (arith, size)) (sym (class i (omega (arith, size))) ∙ e ∙ class j (omega (arith, size)))
               ∙ sym (store j (omega (arith, size)))),
           (λ e. class i (omega (arith, size))
-              ∙ F.same_Class (stores_rise sheet set a n m R) i j (omega (arith, size)) (omega (arith, size))
+              ∙ F.same_class (stores_rise sheet set a n m R) i j (omega (arith, size)) (omega (arith, size))
               (sym (store i (omega (arith, size))) ∙ e ∙ store j (omega (arith, size)))
               ∙ sym (class j (omega (arith, size)))),
         ));

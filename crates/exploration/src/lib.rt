@@ -19,7 +19,7 @@ use walk_state::{Basis, Walk, Walked};
 use work_layout::MEMBERS;
 
 // What stays the same while the set is explored: how many facts and nodes the sheet has, and the caps.
-#[derive(Drop)]
+#[derive(Clone, Copy)]
 pub struct Plan {
     pub facts: u16,
     pub nodes: usize,

@@ -12,7 +12,7 @@ ghost use Rattle.sheet_types.specs.AddedStore.{AddedTo};
 use packing::Numbers;
 
 // What reading a field or a section gives: a value and the place after it, or the refusal's number and place.
-#[derive(Drop)]
+#[derive(Clone, Copy)]
 pub enum Section {
     Got(u16, usize),
     Refused(u8, usize),

@@ -13,7 +13,7 @@ use trail_replies::reply_to;
 use work_layout::{MOVES, NONE, STEPS};
 
 // A move that was taken: 0 for the left, 1 for the right, and its number.
-#[derive(Drop)]
+#[derive(Clone, Copy)]
 pub struct Taken {
     pub side: u32,
     pub number: u32,

@@ -4,14 +4,14 @@ use Rattle.class_rounds.specs.RoundsDone.{reached_last}
 use Rattle.class_rounds.proofs.refine.Statement.{statement}
 use Rattle.class_rounds.proofs.refine.Tie as tie
 
-refine-to-requires : tie.Need-refine-to-requires
+refine-to-requires : tie.Need-refine_to-requires
 refine-to-requires c κs = search rules
 
-same_length : tie.Need-same-length
+same_length : tie.Need-shape_of-work
 same_length c = search rules
 
 returns : tie.Need-returns
-returns c = let x = c.before.before.refine-to.ensures in (x.0, reached_last x.0 x.1)
+returns c = let x = c.refine_to.ensures in (x.0, reached_last x.0 x.1)
 
-pub refine-spec : {M : Type 1} → statement M
-refine-spec = tie.close (tie.spec refine-to-requires same_length returns)
+pub refine_spec : {M : Type 1} → statement M
+refine_spec = tie.close (tie.spec refine-to-requires same_length returns)

@@ -13,66 +13,63 @@ use Rattle.label_walk.specs.FreeSets.{free_fits, free_marked}
 use Rattle.label_walk.proofs.count_free.Statement.{statement}
 use Rattle.label_walk.proofs.count_free.Tie as tie
 
-mul-a : tie.Need-overflow-mul-a
+mul-a : tie.Need-offset_bounds-work-at
 mul-a c = search rules
 
-slice-read-a : tie.Need-slice-read-a
+slice-read-a : tie.Need-bounds-work-at
 slice-read-a c = search rules
 
-cast-a : tie.Need-overflow-cast-a
-cast-a c = omega (arith, c.slice-known2.given c.before.before.before.args.at)
+cast-a : tie.Need-overflow_cast-a
+cast-a c = omega (arith, c.slice_known-then-n-eq1-1.given c.args.at)
 
-count-free-of-requires : tie.Need-count-free-of-requires
+count-free-of-requires : tie.Need-count_free_of-requires
 count-free-of-requires c κs =
-    let b = c.before.before.before in
-    let e : b.args.at + 0 ≡ b.args.at = omega arith in
-    (search rules, rw e at (b.requires.3.sets 0 (omega arith)))
+    let e : c.args.at + 0 ≡ c.args.at = omega arith in
+    (search rules, rw e at (c.requires.3.sets 0 (omega arith)))
 
-returns : tie.Need-returns
+returns : tie.Need-returns-then-n-eq1
 returns c =
-    let g = c.before.before.before.before.args in
+    let g = c.args in
     let w : List ℕ = g.work.now in
     let one : numbers_at w g.at g.n ≡ get_or w g.at 0 ∷ [] =
-    ap (numbers_at w g.at) c.before.before.if1.true ∙ numbers_one w g.at (omega arith) in
-    let e : c.count-free-of.result ≡ length (free_sets (numbers_at w g.at g.n) g.facts) =
-    c.count-free-of.ensures ∙ ap (λ (found : List ℕ). length (free_sets found g.facts)) (sym one) in
+    ap (numbers_at w g.at) c.if-n-eq1.true ∙ numbers_one w g.at (omega arith) in
+    let e : c.count_free_of.result ≡ length (free_sets (numbers_at w g.at g.n) g.facts) =
+    c.count_free_of.ensures ∙ ap (λ (found : List ℕ). length (free_sets found g.facts)) (sym one) in
     (e, omega (arith, e, free_fits (numbers_at w g.at g.n) g.facts), outside_same g.left (g.left + words_of g.facts) w)
 
-words-of-requires : tie.Need-words-of-requires
+words-of-requires : tie.Need-words_of-words-requires
 words-of-requires c κs = search rules
 
-mark-all-requires : tie.Need-mark-all-requires
+mark-all-requires : tie.Need-mark_all-requires
 mark-all-requires c κs = search rules
 
-clear-found-requires : tie.Need-clear-found-requires
+clear-found-requires : tie.Need-clear_found-requires
 clear-found-requires c κs = search rules
 
-count-marked-requires : tie.Need-count-marked-requires
+count-marked-requires : tie.Need-count_marked-requires
 count-marked-requires c κs = search rules
 
-same_length : tie.Need-same-length
+same_length : tie.Need-shape_of-work
 same_length c = search rules
 
-returns-2 : tie.Need-returns-2
+returns-2 : tie.Need-returns
 returns-2 c =
-    let after = c.before.before.before.before in
-    let marked = after.before.before.before.before.mark-all in
-    let words = after.before.before.before.before.before.before.words_of in
-    let b = after.before.before.before.before.before.before.before.before.before in
-    let g = b.args in
+    let marked = c.mark_all in
+    let words = c.words_of-words in
+    let g = c.args in
     let w : List ℕ = g.work.now in
     let same =
-    free_marked g.facts words.result g.left g.at g.n w marked.new.0 after.clear-found.new.0 words.ensures.0 b.requires.1
-    marked.ensures after.clear-found.ensures in
-    let e : c.count-marked.result ≡ length (free_sets (numbers_at w g.at g.n) g.facts) = c.count-marked.ensures ∙ ap length same in (
+    free_marked g.facts words.result g.left g.at g.n w marked.new.work c.clear_found.new.work words.ensures.0 c.requires.1
+    marked.ensures c.clear_found.ensures in
+    let e : c.count_marked.result ≡ length (free_sets (numbers_at w g.at g.n) g.facts) = c.count_marked.ensures ∙ ap length same in (
       e,
       omega (arith, e, free_fits (numbers_at w g.at g.n) g.facts),
-      outside_then marked.ensures.same after.clear-found.ensures.same g.left (g.left + words_of g.facts) (omega arith) (omega arith) (omega arith)
+      outside_then marked.ensures.same c.clear_found.ensures.same g.left (g.left + words_of g.facts) (omega arith) (omega arith) (omega arith)
           (omega (arith, words.ensures.0)),
     )
 
-pub count-free-spec : {M : Type 1} → statement M
-count-free-spec =
+pub count_free_spec : {M : Type 1} → statement M
+count_free_spec =
     tie.close
     (tie.spec
     mul-a

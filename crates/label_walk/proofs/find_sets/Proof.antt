@@ -11,127 +11,123 @@ use Rattle.label_walk.specs.FoundWalk.{marked_below, marked_after, Walked, walke
 use Rattle.label_walk.proofs.find_sets.Statement.{statement}
 use Rattle.label_walk.proofs.find_sets.Tie as tie
 
-abbrev invariant-loop : tie.invariant-loop
+abbrev invariant-loop : tie.invariant-loop-facts
 invariant-loop work₀ facts left at words n₀ work n = (k : ℕ) × (k ≤ suc facts) × Walked facts words left at work₀ k n work
 
-abbrev decreases-loop : tie.decreases-loop
+abbrev decreases-loop : tie.decreases-loop-facts
 decreases-loop work₀ facts left at words n₀ work n = length (marked_below facts left work₀ (suc facts)) - n
 
 -- the least number of facts of a marked set is reached
-least : (c : tie.Else1 invariant-loop decreases-loop)
-    → let g = c.before.before.before.before.before.before.args in
-    let l = c.before.before.before.loop in
-    let words : ℕ = c.before.before.before.before.words_of.result in
-    let k : ℕ = c.before.least_size.result in
+least : (c : tie.Else-k-gt16 invariant-loop decreases-loop)
+    → let g = c.args in
+    let l = c.loop-facts in
+    let words : ℕ = c.words_of-words.result in
+    let k : ℕ = c.least_size-k.result in
     (k ≤ g.facts) × Walked g.facts words g.left g.at g.work.now k l.n l.work
     × (0 < length (marked_of_size l.work g.left words k))
 least c =
-    let b = c.before.before.before.before.before.before in
-    let g = b.args in
-    let l = c.before.before.before.loop in
-    let words = c.before.before.before.before.words_of in
-    let k = c.before.least_size in
+    let g = c.args in
+    let l = c.loop-facts in
+    let words = c.words_of-words in
+    let k = c.least_size-k in
     walked_least g.facts words.result g.left g.at g.work.now l.invariant.0 l.n l.work l.invariant.2 k.result
-    (omega (arith, b.requires.0)) words.ensures.0 b.requires.2 k.ensures (omega (arith, c.if1.false))
+    (omega (arith, c.requires.0)) words.ensures.0 c.requires.2 k.ensures (omega (arith, c.if-k-gt16.false))
 
 -- what is found with so many facts is what is still marked
-size : (c : tie.Else1 invariant-loop decreases-loop)
-    → let g = c.before.before.before.before.before.before.args in
-    let l = c.before.before.before.loop in
-    let k : ℕ = c.before.least_size.result in
-    marked_of_size l.work g.left c.before.before.before.before.words_of.result k ≡ marked_after g.facts g.left g.work.now k
+size : (c : tie.Else-k-gt16 invariant-loop decreases-loop)
+    → let g = c.args in
+    let l = c.loop-facts in
+    let k : ℕ = c.least_size-k.result in
+    marked_of_size l.work g.left c.words_of-words.result k ≡ marked_after g.facts g.left g.work.now k
 size c =
-    let b = c.before.before.before.before.before.before in
-    let g = b.args in
-    let l = c.before.before.before.loop in
-    let words = c.before.before.before.before.words_of in
-    walked_size g.facts words.result g.left g.at g.work.now c.before.least_size.result l.n l.work (least c).1
-    (omega (arith, b.requires.0)) words.ensures.0 b.requires.2
+    let g = c.args in
+    let l = c.loop-facts in
+    let words = c.words_of-words in
+    walked_size g.facts words.result g.left g.at g.work.now c.least_size-k.result l.n l.work (least c).1
+    (omega (arith, c.requires.0)) words.ensures.0 c.requires.2
 
 -- it is among the whole
-part : (c : tie.Else1 invariant-loop decreases-loop)
-    → let g = c.before.before.before.before.before.before.args in
-    let l = c.before.before.before.loop in
-    l.n + length (marked_of_size l.work g.left c.before.before.before.before.words_of.result c.before.least_size.result)
+part : (c : tie.Else-k-gt16 invariant-loop decreases-loop)
+    → let g = c.args in
+    let l = c.loop-facts in
+    l.n + length (marked_of_size l.work g.left c.words_of-words.result c.least_size-k.result)
     ≤ length (marked_below g.facts g.left g.work.now (suc g.facts))
 part c =
-    let g = c.before.before.before.before.before.before.args in
-    let l = c.before.before.before.loop in
+    let g = c.args in
+    let l = c.loop-facts in
     omega (
       arith,
       ap length (size c),
-      walked_room g.facts c.before.before.before.before.words_of.result g.left g.at g.work.now c.before.least_size.result l.n l.work (least c).1 (least c).0,
+      walked_room g.facts c.words_of-words.result g.left g.at g.work.now c.least_size-k.result l.n l.work (least c).1 (least c).0,
     )
 
 -- there is room for it
-room : (c : tie.Else1 invariant-loop decreases-loop)
-    → let g = c.before.before.before.before.before.before.args in
-    let l = c.before.before.before.loop in
-    g.at + l.n + length (marked_of_size l.work g.left c.before.before.before.before.words_of.result c.before.least_size.result) ≤ length l.work
-room c = omega (arith, part c, c.before.before.before.before.before.before.requires.3, c.before.before.before.loop.invariant.2.same.long)
+room : (c : tie.Else-k-gt16 invariant-loop decreases-loop)
+    → let g = c.args in
+    let l = c.loop-facts in
+    g.at + l.n + length (marked_of_size l.work g.left c.words_of-words.result c.least_size-k.result) ≤ length l.work
+room c = omega (arith, part c, c.requires.3, c.loop-facts.invariant.2.same.long)
 
-words-of-requires : tie.Need-words-of-requires invariant-loop decreases-loop
+words-of-requires : tie.Need-words_of-words-requires invariant-loop decreases-loop
 words-of-requires c κs = search rules
 
-loop-holds : tie.Need-loop-init invariant-loop decreases-loop
+loop-holds : tie.Need-loop-facts-init invariant-loop decreases-loop
 loop-holds c =
-    let g = c.before.before.args in
-    (0, omega arith, walked_first g.facts c.words_of.result g.left g.at g.work.now)
+    let g = c.args in
+    (0, omega arith, walked_first g.facts c.words_of-words.result g.left g.at g.work.now)
 
-least-size-requires : tie.Need-least-size-requires invariant-loop decreases-loop
+least-size-requires : tie.Need-least_size-k-requires invariant-loop decreases-loop
 least-size-requires c κs =
-    let b = c.before.before.before.before in
-    let words = c.before.before.words_of in
-    (search rules, omega (arith, words.ensures.0, b.requires.1, b.requires.3, c.before.loop.invariant.2.same.long))
+    let words = c.words_of-words in
+    (search rules, omega (arith, words.ensures.0, c.requires.1, c.requires.3, c.loop-facts.invariant.2.same.long))
 
-same_length : tie.Need-same-length invariant-loop decreases-loop
-same_length c = c.before.before.before.loop.invariant.2.same.long
+same_length : tie.Need-shape_of-work-then-k-gt16 invariant-loop decreases-loop
+same_length c = c.loop-facts.invariant.2.same.long
 
-returns : tie.Need-returns invariant-loop decreases-loop
+returns : tie.Need-returns-then-k-gt16 invariant-loop decreases-loop
 returns c =
-    let g = c.before.before.before.before.before.before.args in
-    let l = c.before.before.before.loop in
-    let words = c.before.before.before.before.words_of in
-    let k = c.before.least_size in
+    let g = c.args in
+    let l = c.loop-facts in
+    let words = c.words_of-words in
+    let k = c.least_size-k in
     walked_whole g.facts words.result g.left g.at g.work.now l.invariant.0 l.n l.work l.invariant.2 words.ensures.0
     (walked_ended g.facts words.result g.left g.at g.work.now l.invariant.0 l.n l.work l.invariant.2 k.result l.invariant.1
-    words.ensures.0 k.ensures (omega (arith, c.if1.true)))
+    words.ensures.0 k.ensures (omega (arith, c.if-k-gt16.true)))
 
-list-marked-requires : tie.Need-list-marked-requires invariant-loop decreases-loop
+list-marked-requires : tie.Need-list_marked-m-requires invariant-loop decreases-loop
 list-marked-requires c κs = (search rules, search rules, room c.before)
 
-add-clear-found : tie.Need-overflow-add-clear-found invariant-loop decreases-loop
+add-clear-found : tie.Need-overflow_add-at invariant-loop decreases-loop
 add-clear-found c = omega (arith, room c.before.before.before.before.before)
 
-sub-clear-found : tie.Need-overflow-sub-clear-found invariant-loop decreases-loop
+sub-clear-found : tie.Need-overflow_sub-m invariant-loop decreases-loop
 sub-clear-found c = search rules
 
-clear-found-requires : tie.Need-clear-found-requires invariant-loop decreases-loop
+clear-found-requires : tie.Need-clear_found-requires invariant-loop decreases-loop
 clear-found-requires c κs =
-    let m = c.before.before.before.list-marked in
+    let m = c.list_marked-m in
     (search rules, search rules, omega (arith, room c.before.before.before.before.before, m.ensures.0, m.ensures.2.long))
 
-loop-less : tie.Need-loop-smaller invariant-loop decreases-loop
-loop-less c = omega (arith, part c.before.before.before.before.before.before.before.before, (least c.before.before.before.before.before.before.before.before).2, c.before.before.before.before.before.before.list-marked.ensures.0)
+loop-less : tie.Need-loop-facts-smaller invariant-loop decreases-loop
+loop-less c = omega (arith, part c.before.before.before.before.before.before.before.before, (least c.before.before.before.before.before.before.before.before).2, c.list_marked-m.ensures.0)
 
-loop-again : tie.Need-loop-preserved invariant-loop decreases-loop
+loop-again : tie.Need-loop-facts-preserved invariant-loop decreases-loop
 loop-again c =
-    let in-loop = c.before.before.before.before.before.before.before.before in
-    let g = in-loop.before.before.before.before.before.before.args in
-    let l = in-loop.before.before.before.loop in
-    let words = in-loop.before.before.before.before.words_of in
-    let k : ℕ = in-loop.before.least_size.result in
-    let m = c.before.before.before.before.before.before.list-marked in
-    let found = c.before.before.clear-found in (
+    let g = c.args in
+    let l = c.loop-facts in
+    let words = c.words_of-words in
+    let k : ℕ = c.least_size-k.result in
+    let m = c.list_marked-m in
+    let found = c.clear_found in (
       k + 1,
-      omega (arith, (least in-loop).0),
-      walked_next g.facts words.result g.left g.at g.work.now k l.n l.work (least in-loop).1 m.result m.new.0 found.new.0
+      omega (arith, (least c.before.before.before.before.before.before.before.before).0),
+      walked_next g.facts words.result g.left g.at g.work.now k l.n l.work (least c.before.before.before.before.before.before.before.before).1 m.result m.new.work found.new.work
           (search rules)
-          (subst (λ (xs : List ℕ). ListedBehind g.at l.n l.work xs m.result m.new.0) (size in-loop) m.ensures) found.ensures,
+          (subst (λ (xs : List ℕ). ListedBehind g.at l.n l.work xs m.result m.new.work) (size c.before.before.before.before.before.before.before.before) m.ensures) found.ensures,
     )
 
-pub find-sets-spec : {M : Type 1} → statement M
-find-sets-spec =
+pub find_sets_spec : {M : Type 1} → statement M
+find_sets_spec =
     tie.close
     (tie.spec
     invariant-loop

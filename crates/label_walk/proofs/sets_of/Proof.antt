@@ -9,7 +9,7 @@ use Rattle.set_digits.specs.WordDigits.{one_shifted}
 use Rattle.label_walk.proofs.sets_of.Statement.{statement}
 use Rattle.label_walk.proofs.sets_of.Tie as tie
 
-shl-result : tie.Need-overflow-shl-result
+shl-result : tie.Need-overflow_shl-result
 shl-result c = search rules
 
 returns : tie.Need-returns
@@ -18,5 +18,5 @@ returns c =
     let exact : 1 * 2 ^ n % 2 ^ 64 ≡ 2 ^ n = one_shifted n 64 (omega arith) in
     (exact, omega (arith, exact, pow_mono {i = n} {j = max_facts} c.requires))
 
-pub sets-of-spec : {M : Type 1} → statement M
-sets-of-spec = tie.close (tie.spec shl-result returns)
+pub sets_of_spec : {M : Type 1} → statement M
+sets_of_spec = tie.close (tie.spec shl-result returns)

@@ -14,114 +14,77 @@ use Rattle.node_walk.proofs.visit.Statement.{statement}
 use Rattle.node_walk.proofs.visit.Tie as tie
 
 -- ---- the stages of the function, each from a later one
-abbrev start-of-pending-at : tie.After-pending-at → tie.Start
-start-of-pending-at s = s.before.before.before.before
-
-abbrev pending-at-of-node-of : tie.After-node-of → tie.After-pending-at
-pending-at-of-node-of s = s.before
-
-abbrev node-of-of-see : tie.After-see → tie.After-node-of
-node-of-of-see s = s.before.before.before.before
-
-abbrev see-of-then1 : tie.Then1 → tie.After-see
-see-of-then1 s = s.before.before.before.before.before.before
-
-abbrev see-of-else1 : tie.Else1 → tie.After-see
-see-of-else1 s = s.before.before.before.before.before.before
-
-abbrev else1-of-visit-kind : tie.After-visit-kind → tie.Else1
-else1-of-visit-kind s = s.before.before
-
 -- ---- what is left to show
-sub-top : tie.Need-overflow-sub-top
+sub-top : tie.Need-overflow_sub-top
 sub-top c = search rules
 
-pending-at-requires : tie.Need-pending-at-requires
+pending-at-requires : tie.Need-pending_at-x-requires
 pending-at-requires c κs =
-    let o = c.before.before.before in
-    let n : o.args.s.top - 1 + 1 ≡ o.args.s.top = omega (arith, o.requires.2) in
-    let k = o.requires.1 in
-    (omega (arith, k.top), omega (arith, k.collecting.long), (k.entries (o.args.s.top - 1) (omega arith)).packed)
+    let n : c.args.s.top - 1 + 1 ≡ c.args.s.top = omega (arith, c.requires.2) in
+    let k = c.requires.1 in
+    (omega (arith, k.top), omega (arith, k.collecting.long), (k.entries (c.args.s.top - 1) (omega arith)).packed)
 
-node-of-requires : tie.Need-node-of-requires
-node-of-requires c κs = c.pending-at.ensures.0
+node-of-requires : tie.Need-node_of-e-requires
+node-of-requires c κs = c.pending_at-x.ensures.0
 
-cast-kind-in : tie.Need-overflow-cast-kind-in
+cast-kind-in : tie.Need-overflow_cast-e
 cast-kind-in c = search rules
 
-kind-in-requires : tie.Need-kind-in-requires
+kind-in-requires : tie.Need-kind_in-kind-requires
 kind-in-requires c κs =
-    let unpacked = c.before in
-    let read = pending-at-of-node-of unpacked in
-    let o = start-of-pending-at read in
-    let n : o.args.s.top - 1 + 1 ≡ o.args.s.top = omega (arith, o.pre.2) in
-    let entry = o.pre.1.entries (o.args.s.top - 1) (omega arith) in
-    let same = ap (λ (z : NodeBeside). z.node) (unpacked.node_of.ensures.0 ∙ read.pending-at.ensures.1) in
-    omega (arith, entry.fits.node, o.pre.0.few, same)
+    let n : c.args.s.top - 1 + 1 ≡ c.args.s.top = omega (arith, c.requires.2) in
+    let entry = c.requires.1.entries (c.args.s.top - 1) (omega arith) in
+    let same = ap (λ (z : NodeBeside). z.node) (c.node_of-e.ensures.0 ∙ c.pending_at-x.ensures.1) in
+    omega (arith, entry.fits.node, c.requires.0.few, same)
 
-see-requires : tie.Need-see-requires
+see-requires : tie.Need-see-m-requires
 see-requires c κs =
-    let read = c.before.before.before.before in
-    let o = start-of-pending-at read in
-    let k = o.pre.1 in
-    (k.marks, read.pending-at.ensures.0, omega (arith, k.top), omega (arith, k.collecting.long))
+    let k = c.requires.1 in
+    (k.marks, c.pending_at-x.ensures.0, omega (arith, k.top), omega (arith, k.collecting.long))
 
-same_length : tie.Need-same-length
+same_length : tie.Need-shape_of-work-then-not-m
 same_length c = search rules
 
-returns : tie.Need-returns
+returns : tie.Need-returns-then-not-m
 returns c =
-    let seen = see-of-then1 c in
-    let unpacked = node-of-of-see seen in
-    let read = pending-at-of-node-of unpacked in
-    let o = start-of-pending-at read in
-    let a = o.args in
-    let m = seen.see in
-    let x = read.pending-at in
-    let n : a.s.top - 1 + 1 ≡ a.s.top = omega (arith, o.pre.2) in
-    taken_passed o.pre.1 (a.s.top - 1) n (node_for x.result) x.ensures.1 m.ensures
-    (nodes_in (nodes_of a.table.now) a.b.nodes) (not-true m.result.fresh c.if1.true)
+    let a = c.args in
+    let m = c.see-m in
+    let x = c.pending_at-x in
+    let n : a.s.top - 1 + 1 ≡ a.s.top = omega (arith, c.requires.2) in
+    taken_passed c.requires.1 (a.s.top - 1) n (node_for x.result) x.ensures.1 m.ensures
+    (nodes_in (nodes_of a.table.now) a.b.nodes) (not-true m.result.fresh c.if-not-m.true)
 
-visit-kind-requires : tie.Need-visit-kind-requires
+visit-kind-requires : tie.Need-visit_kind-requires
 visit-kind-requires c κs =
-    let seen = see-of-else1 c.before in
-    let unpacked = node-of-of-see seen in
-    let read = pending-at-of-node-of unpacked in
-    let o = start-of-pending-at read in
-    let a = o.args in
-    let m = seen.see in
-    let e = unpacked.node_of in
-    let x = read.pending-at in
-    let n : a.s.top - 1 + 1 ≡ a.s.top = omega (arith, o.pre.2) in
-    let k = o.pre.1 in (
-      o.pre.0,
+    let a = c.args in
+    let m = c.see-m in
+    let e = c.node_of-e in
+    let x = c.pending_at-x in
+    let n : a.s.top - 1 + 1 ≡ a.s.top = omega (arith, c.requires.2) in
+    let k = c.requires.1 in (
+      c.requires.0,
       taken_walking k (a.s.top - 1) n (node_for x.result) x.ensures.1 m.ensures,
       taken_fits k (a.s.top - 1) n (node_for x.result) x.ensures.1 m.ensures (node_beside e.result) e.ensures.0,
       e.ensures.1,
       taken_low k (a.s.top - 1) n (node_for x.result) x.ensures.1 m.ensures (node_beside e.result) e.ensures.0,
     )
 
-same-length-2 : tie.Need-same-length-2
+same-length-2 : tie.Need-shape_of-work
 same-length-2 c = search rules
 
-returns-2 : tie.Need-returns-2
+returns-2 : tie.Need-returns
 returns-2 c =
-    let visited = c.before.before in
-    let seen = see-of-else1 (else1-of-visit-kind visited) in
-    let unpacked = node-of-of-see seen in
-    let read = pending-at-of-node-of unpacked in
-    let o = start-of-pending-at read in
-    let a = o.args in
-    let m = seen.see in
-    let e = unpacked.node_of in
-    let x = read.pending-at in
-    let n : a.s.top - 1 + 1 ≡ a.s.top = omega (arith, o.pre.2) in
-    let r = visited.visit-kind in
-    taken_turned o.pre.1 (a.s.top - 1) n (node_for x.result) x.ensures.1 m.ensures (node_beside e.result) e.ensures.0
-    (nodes_in (nodes_of a.table.now) a.b.nodes) r.new.0 r.result r.ensures
+    let a = c.args in
+    let m = c.see-m in
+    let e = c.node_of-e in
+    let x = c.pending_at-x in
+    let n : a.s.top - 1 + 1 ≡ a.s.top = omega (arith, c.requires.2) in
+    let r = c.visit_kind in
+    taken_turned c.requires.1 (a.s.top - 1) n (node_for x.result) x.ensures.1 m.ensures (node_beside e.result) e.ensures.0
+    (nodes_in (nodes_of a.table.now) a.b.nodes) r.new.work r.result r.ensures
 
-pub visit-spec : {M : Type 1} → statement M
-visit-spec =
+pub visit_spec : {M : Type 1} → statement M
+visit_spec =
     tie.close
     (tie.spec
     sub-top

@@ -10,65 +10,52 @@ use Rattle.node_walk.specs.NodeVisitLaws.{Onward, onward_none, onward_next, onwa
 use Rattle.node_walk.proofs.walk.Statement.{statement}
 use Rattle.node_walk.proofs.walk.Tie as tie
 
-abbrev invariant-loop : tie.invariant-loop
+abbrev invariant-loop : tie.invariant-loop-cur
 invariant-loop w₀ table b cur₀ w cur = Onward rank_of (nodes_in (nodes_of table) b.nodes) b w₀ cur₀ w cur
 
-abbrev decreases-loop : tie.decreases-loop
+abbrev decreases-loop : tie.decreases-loop-cur
 decreases-loop w₀ table b cur₀ w cur = weight rank_of (pending_in w cur.top)
 
-loop-holds : tie.Need-loop-init invariant-loop decreases-loop
+loop-holds : tie.Need-loop-cur-init invariant-loop decreases-loop
 loop-holds c =
-    let o = c.before in
-    let a = o.args in
-    onward_none (nodes_in (nodes_of a.table.now) a.b.nodes) o.requires.1
+    let a = c.args in
+    onward_none (nodes_in (nodes_of a.table.now) a.b.nodes) c.requires.1
 
-visit-requires : tie.Need-visit-requires invariant-loop decreases-loop
+visit-requires : tie.Need-visit-r-requires invariant-loop decreases-loop
 visit-requires c κs =
-    let loop = c.before.before.before in
-    let o = loop.before.before in
-    (o.requires.0, loop.loop.invariant.walking, omega (arith, c.before.if1.true))
+    (c.requires.0, c.loop-cur.invariant.walking, omega (arith, c.loop-cur-test.true))
 
-enum-known-r : tie.Need-enum-known-r invariant-loop decreases-loop
+enum-known-r : tie.Need-enum_known-r invariant-loop decreases-loop
 enum-known-r c = search rules
 
-enum_told : tie.Need-enum-told invariant-loop decreases-loop
+enum_told : tie.Need-enum_told-1 invariant-loop decreases-loop
 enum_told c = search rules
 
-same_length : tie.Need-same-length invariant-loop decreases-loop
+same_length : tie.Need-shape_of-work-in_default invariant-loop decreases-loop
 same_length c = search rules
 
-returns : tie.Need-returns invariant-loop decreases-loop
+returns : tie.Need-returns-in_default invariant-loop decreases-loop
 returns c =
-    let visited = c.before.before.before.before in
-    let loop = visited.before.before.before.before in
-    let o = loop.before.before in
-    onward_over o.requires.1 loop.loop.invariant (turned_over c.enum_told.given.1 visited.visit.ensures)
+    onward_over c.requires.1 c.loop-cur.invariant (turned_over c.in_default.is c.visit-r.ensures)
 
-loop-less : tie.Need-loop-smaller invariant-loop decreases-loop
+loop-less : tie.Need-loop-cur-smaller invariant-loop decreases-loop
 loop-less c =
-    let on = c.before in
-    let visited = on.before.before.before.before in
-    (turned_on on.r.given.1 visited.visit.ensures).lighter
+    (turned_on c.in-On.is c.visit-r.ensures).lighter
 
-loop-again : tie.Need-loop-preserved invariant-loop decreases-loop
+loop-again : tie.Need-loop-cur-preserved invariant-loop decreases-loop
 loop-again c =
-    let on = c.before in
-    let visited = on.before.before.before.before in
-    let loop = visited.before.before.before.before in
-    let o = loop.before.before in
-    onward_next o.requires.1 loop.loop.invariant (turned_on on.r.given.1 visited.visit.ensures)
+    onward_next c.requires.1 c.loop-cur.invariant (turned_on c.in-On.is c.visit-r.ensures)
 
-same-length-2 : tie.Need-same-length-2 invariant-loop decreases-loop
+same-length-2 : tie.Need-shape_of-work invariant-loop decreases-loop
 same-length-2 c = search rules
 
-returns-2 : tie.Need-returns-2 invariant-loop decreases-loop
+returns-2 : tie.Need-returns invariant-loop decreases-loop
 returns-2 c =
-    let o = c.before.before.before.before in
-    let m = c.before.before.loop in
-    onward_end o.requires.1 m.invariant (omega (arith, c.if1.false))
+    let m = c.loop-cur in
+    onward_end c.requires.1 m.invariant (omega (arith, c.loop-cur-test.false))
 
-pub walk-spec : {M : Type 1} → statement M
-walk-spec =
+pub walk_spec : {M : Type 1} → statement M
+walk_spec =
     tie.close
     (tie.spec
     invariant-loop

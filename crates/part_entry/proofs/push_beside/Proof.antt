@@ -12,65 +12,54 @@ use borrow.Author.Tests.{not-false, not-true}
 use Rattle.part_entry.proofs.push_beside.Statement.{statement}
 use Rattle.part_entry.proofs.push_beside.Tie as tie
 
-movable-in-requires : tie.Need-movable-in-requires
+movable-in-requires : tie.Need-movable_in-requires
 movable-in-requires c κs = search rules
 
-returns : tie.Need-returns
-returns c = inl (record { still = sym c.before.movable-in.ensures ∙ c.if1.true; same = refl; walk = refl })
+returns : tie.Need-returns-then-movable_in-eq0
+returns c = inl (record { still = sym c.movable_in.ensures ∙ c.if-movable_in-eq0.true; same = refl; walk = refl })
 
-put-beside-requires : tie.Need-put-beside-requires
-put-beside-requires c κs = let h = c.before.before.before.before.requires in (h.1, h.4, h.5, h.7, h.8)
+put-beside-requires : tie.Need-put_beside-joined-requires
+put-beside-requires c κs = let h = c.requires in (h.1, h.4, h.5, h.7, h.8)
 
-returns-2 : tie.Need-returns-2
+returns-2 : tie.Need-returns-then-not-joined
 returns-2 c =
-    let o = c.before.before.before.before.before.before.before in
-    let a = o.args in
-    let x = c.before.before.put-beside in
-    let moving = c.before.before.before.before in
+    let a = c.args in
+    let x = c.put_beside-joined in
     part_too_long (opened_in (opened_of a.table.now) a.q) a.e a.b.caps.threads x.result x.ensures
-    o.requires.6 o.requires.8 (get_or (movables_of a.table.now) a.p 0) a.p
-    (λ h. moving.if1.false (moving.before.movable-in.ensures ∙ h)) a.work.now (not-true x.result.fits c.if2.true)
+    c.requires.6 c.requires.8 (get_or (movables_of a.table.now) a.p 0) a.p
+    (λ h. c.if-movable_in-eq0.false (c.movable_in.ensures ∙ h)) a.work.now (not-true x.result.fits c.if-not-joined.true)
 
-cast-rank-of : tie.Need-overflow-cast-rank-of
+cast-rank-of : tie.Need-overflow_cast-e
 cast-rank-of c = search rules
 
-rank-of-requires : tie.Need-rank-of-requires
+rank-of-requires : tie.Need-rank_of-rank-requires
 rank-of-requires c κs = search rules
 
-cast-enter : tie.Need-overflow-cast-enter
+cast-enter : tie.Need-overflow_cast-p
 cast-enter c = search rules
 
-enter-requires : tie.Need-enter-requires
+enter-requires : tie.Need-enter-next-requires
 enter-requires c κs =
-    let fitting = c.before.before.before.before in
-    let joined = fitting.before.before in
-    let o = joined.before.before.before.before.before in
-    let a = o.args in
-    let x = joined.put-beside in
+    let a = c.args in
+    let x = c.put_beside-joined in
     let few = beside_few (opened_in (opened_of a.table.now) a.q) a.e a.b.caps.threads x.result x.ensures
-    o.requires.6 o.requires.8 (not-false x.result.fits fitting.if2.false) in
-    (o.requires.2, o.requires.3, omega (arith, few, o.requires.5), o.requires.9)
+    c.requires.6 c.requires.8 (not-false x.result.fits c.if-not-joined.false) in
+    (c.requires.2, c.requires.3, omega (arith, few, c.requires.5), c.requires.9)
 
-same_length : tie.Need-same-length
+same_length : tie.Need-shape_of-work
 same_length c = search rules
 
-returns-3 : tie.Need-returns-3
+returns-3 : tie.Need-returns
 returns-3 c =
-    let entered = c.before.before.before.before in
-    let ranked = entered.before.before in
-    let fitting = ranked.before.before.before in
-    let joined = fitting.before.before in
-    let moving = joined.before.before in
-    let o = moving.before.before.before in
-    let a = o.args in
-    let x = joined.put-beside in
-    let y = entered.enter in
+    let a = c.args in
+    let x = c.put_beside-joined in
+    let y = c.enter-next in
     inr (part_stored (opened_in (opened_of a.table.now) a.q) a.e a.b.caps.threads x.result x.ensures
-    o.requires.6 o.requires.8 (get_or (movables_of a.table.now) a.p 0) a.p (λ h. moving.if1.false (moving.before.movable-in.ensures ∙ h)) a.work.now a.s y.new.0
-    (rank_of a.e.node) ranked.rank-of.result y.result ranked.rank-of.ensures (not-false x.result.fits fitting.if2.false) y.ensures)
+    c.requires.6 c.requires.8 (get_or (movables_of a.table.now) a.p 0) a.p (λ h. c.if-movable_in-eq0.false (c.movable_in.ensures ∙ h)) a.work.now a.s y.new.work
+    (rank_of a.e.node) c.rank_of-rank.result y.result c.rank_of-rank.ensures (not-false x.result.fits c.if-not-joined.false) y.ensures)
 
-pub push-beside-spec : {M : Type 1} → statement M
-push-beside-spec =
+pub push_beside_spec : {M : Type 1} → statement M
+push_beside_spec =
     tie.close
     (tie.spec
     movable-in-requires

@@ -6,65 +6,42 @@ use Rattle.reading_text.proofs.reading_line.Statement.{statement}
 use Rattle.reading_text.proofs.reading_line.Tie as tie
 
 -- ---- the stages of the function, each from a later one
-abbrev start-of-read-choice : tie.After-read-choice → tie.Start
-start-of-read-choice s = s.before.before.before
-
-abbrev read-choice-of-answer : tie.After-answer → tie.After-read-choice
-read-choice-of-answer s = s.before.before
-
-abbrev answer-of-refused-line : tie.After-refused-line → tie.After-answer
-answer-of-refused-line s = s.before.before.before
-
-abbrev read-choice-of-enum-told : tie.After-enum-told → tie.After-read-choice
-read-choice-of-enum-told s = s.before.before
-
-abbrev enum-told-of-read-line : tie.After-read-line → tie.After-enum-told
-enum-told-of-read-line s = s.before.before.before
-
 -- ---- what is left to show
-read-choice-requires : tie.Need-read-choice-requires
+read-choice-requires : tie.Need-read_choice-r-requires
 read-choice-requires c κs = search rules
 
-enum-known-answer : tie.Need-enum-known-answer
+enum-known-answer : tie.Need-enum_known-answer
 enum-known-answer c = search rules
 
-refused-line-requires : tie.Need-refused-line-requires
+refused-line-requires : tie.Need-refused_line-requires
 refused-line-requires c κs = search rules
 
-enum_told : tie.Need-enum-told
+enum_told : tie.Need-enum_told-1
 enum_told c = search rules
 
-read-line-requires : tie.Need-read-line-requires
+read-line-requires : tie.Need-read_line-requires
 read-line-requires c κs = search rules
 
-same_length : tie.Need-same-length
+same_length : tie.Need-shape_of-out-in-Refused
 same_length c = search rules
 
-returns : tie.Need-returns
+returns : tie.Need-returns-in-Refused
 returns c =
-    let at-refused-line = c.before.before in
-    let at-answer = answer-of-refused-line at-refused-line in
-    let at-read-choice = read-choice-of-answer at-answer in
-    let at_start = start-of-read-choice at-read-choice in
-    let a = at_start.args in
-    let r = at-read-choice.read-choice in
-    rw (line_refused (read_choice a.s.now a.left a.right) r.result r.ensures at-answer.answer.given.1) at-refused-line.refused-line.ensures
+    let a = c.args in
+    let r = c.read_choice-r in
+    rw (line_refused (read_choice a.s.now a.left a.right) r.result r.ensures c.in-Refused.is) c.refused_line.ensures
 
-same-length-2 : tie.Need-same-length-2
+same-length-2 : tie.Need-shape_of-out-in-Got
 same-length-2 c = search rules
 
-returns-2 : tie.Need-returns-2
+returns-2 : tie.Need-returns-in-Got
 returns-2 c =
-    let at-read-line = c.before.before in
-    let at-enum-told = enum-told-of-read-line at-read-line in
-    let at-read-choice = read-choice-of-enum-told at-enum-told in
-    let at_start = start-of-read-choice at-read-choice in
-    let a = at_start.args in
-    let r = at-read-choice.read-choice in
-    rw (line_read (read_choice a.s.now a.left a.right) r.result r.ensures at-enum-told.enum_told.given.1) at-read-line.read-line.ensures
+    let a = c.args in
+    let r = c.read_choice-r in
+    rw (line_read (read_choice a.s.now a.left a.right) r.result r.ensures c.in-Got.is) c.read_line.ensures
 
-pub reading-line-spec : {M : Type 1} → statement M
-reading-line-spec =
+pub reading_line_spec : {M : Type 1} → statement M
+reading_line_spec =
     tie.close
     (tie.spec
     read-choice-requires

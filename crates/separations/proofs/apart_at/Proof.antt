@@ -7,19 +7,19 @@ use Rattle.separations.proofs.apart_at.Statement.{statement}
 use Rattle.separations.proofs.apart_at.Tie as tie
 use Rattle.work_layout.specs.ClassLayout.{born_in, from_in_lem}
 
-class-at-requires : tie.Need-class-at-requires
+class-at-requires : tie.Need-class_at-requires
 class-at-requires c κs = search rules
 
-class-at-requires-2 : tie.Need-class-at-requires-2
+class-at-requires-2 : tie.Need-class_at-requires-2
 class-at-requires-2 c κs = search rules
 
 apart-requires : tie.Need-apart-requires
-apart-requires c κs = rw (c.before.class_at.ensures, c.class-at2.ensures) c.before.before.before.requires.2
+apart-requires c κs = rw (c.class_at.ensures, c.class_at-2.ensures) c.requires.2
 
 returns : tie.Need-returns
-returns c = c.apart.ensures ∙ ap₂ (λ (a b : ℕ). apart (from_in_lem c.before.before.before.before.args.work.now)
-    (born_in c.before.before.before.before.args.work.now)
-    c.before.before.before.before.args.last a b) c.before.before.class_at.ensures c.before.class-at2.ensures
+returns c = c.apart.ensures ∙ ap₂ (λ (a b : ℕ). apart (from_in_lem c.args.work.now)
+    (born_in c.args.work.now)
+    c.args.last a b) c.class_at.ensures c.class_at-2.ensures
 
-pub apart-at-spec : {M : Type 1} → statement M
-apart-at-spec = tie.close (tie.spec class-at-requires class-at-requires-2 apart-requires returns)
+pub apart_at_spec : {M : Type 1} → statement M
+apart_at_spec = tie.close (tie.spec class-at-requires class-at-requires-2 apart-requires returns)

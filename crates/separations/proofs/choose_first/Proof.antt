@@ -10,73 +10,71 @@ use Rattle.separations.proofs.choose_first.Statement.{statement}
 use Rattle.separations.proofs.choose_first.Tie as tie
 use Rattle.work_layout.specs.ClassLayout.{class_in}
 
-abbrev invariant-loop : tie.invariant-loop
+abbrev invariant-loop : tie.invariant-loop-i
 invariant-loop w₀ n i₀ w i = (i ≤ n) × (length w ≡ length w₀) × FirstsFound w₀ n i w
 
-abbrev decreases-loop : tie.decreases-loop
+abbrev decreases-loop : tie.decreases-loop-i
 decreases-loop w₀ n i₀ w i = i
 
-loop-holds : tie.Need-loop-init invariant-loop decreases-loop
-loop-holds c = (omega arith, refl, firsts_none c.before.args.work.now c.before.args.n)
+loop-holds : tie.Need-loop-i-init invariant-loop decreases-loop
+loop-holds c = (omega arith, refl, firsts_none c.args.work.now c.args.n)
 
-sub-i : tie.Need-overflow-sub-i invariant-loop decreases-loop
+sub-i : tie.Need-overflow_sub-i invariant-loop decreases-loop
 sub-i c = search rules
 
-class-at-requires : tie.Need-class-at-requires invariant-loop decreases-loop
+class-at-requires : tie.Need-class_at-c-requires invariant-loop decreases-loop
 class-at-requires c κs = search rules
 
-cast-work : tie.Need-overflow-cast-work invariant-loop decreases-loop
+cast-work : tie.Need-overflow_cast-work invariant-loop decreases-loop
 cast-work c = search rules
 
-cast-work-2 : tie.Need-overflow-cast-work-2 invariant-loop decreases-loop
+cast-work-2 : tie.Need-overflow_cast-work-in-loop-i invariant-loop decreases-loop
 cast-work-2 c = search rules
 
-add-work : tie.Need-overflow-add-work invariant-loop decreases-loop
+add-work : tie.Need-overflow_add-work invariant-loop decreases-loop
 add-work c = search rules
 
-mul-work : tie.Need-overflow-mul-work invariant-loop decreases-loop
+mul-work : tie.Need-offset_bounds-work-c invariant-loop decreases-loop
 mul-work c = search rules
 
-slice-write-work : tie.Need-slice-write-work invariant-loop decreases-loop
+slice-write-work : tie.Need-bounds-work-c invariant-loop decreases-loop
 slice-write-work c =
-    let b = c.before.before.before.before.before in
-    let l = c.before.before.before.loop in
+    let l = c.loop-i in
     omega (
       arith,
-      c.class_at.ensures,
+      c.class_at-c.ensures,
       chosen_class l.invariant.2 (l.i - 1) (omega arith),
-      b.requires.2 (l.i - 1) (omega arith),
-      b.requires.1,
+      c.requires.2 (l.i - 1) (omega arith),
+      c.requires.1,
       l.invariant.1,
     )
 
-loop-less : tie.Need-loop-smaller invariant-loop decreases-loop
+loop-less : tie.Need-loop-i-smaller invariant-loop decreases-loop
 loop-less c = search rules
 
-loop-again : tie.Need-loop-preserved invariant-loop decreases-loop
+loop-again : tie.Need-loop-i-preserved invariant-loop decreases-loop
 loop-again c =
-    let b = c.before.before.before.before.before in
-    let g = b.args in
-    let l = c.before.before.before.loop in
+    let g = c.args in
+    let l = c.loop-i in
     let k : ℕ = l.i - 1 in
     let q : l.i ≡ k + 1 = omega arith in
-    let e : c.class_at.result ≡ class_in g.work.now k = c.class_at.ensures ∙ chosen_class l.invariant.2 k (omega arith) in
-    let x = firsts_next g.work.now g.n k l.work (omega arith) (subst (λ (z : ℕ). FirstsFound g.work.now g.n z l.work) q l.invariant.2) b.requires.1
-    c.class_at.result e (omega (arith, b.requires.2 k (omega arith))) in
+    let e : c.class_at-c.result ≡ class_in g.work.now k = c.class_at-c.ensures ∙ chosen_class l.invariant.2 k (omega arith) in
+    let x = firsts_next g.work.now g.n k l.work (omega arith) (subst (λ (z : ℕ). FirstsFound g.work.now g.n z l.work) q l.invariant.2) c.requires.1
+    c.class_at-c.result e (omega (arith, c.requires.2 k (omega arith))) in
     (omega arith, x.only.long, x)
 
-same_length : tie.Need-same-length invariant-loop decreases-loop
+same_length : tie.Need-shape_of-work invariant-loop decreases-loop
 same_length c = search rules
 
 returns : tie.Need-returns invariant-loop decreases-loop
 returns c =
-    let g = c.before.before.before.args in
-    let l = c.before.loop in
+    let g = c.args in
+    let l = c.loop-i in
     let e : l.i ≡ 0 = omega arith in
     subst (λ (z : ℕ). FirstsFound g.work.now g.n z l.work) e l.invariant.2
 
-pub choose-first-spec : {M : Type 1} → statement M
-choose-first-spec =
+pub choose_first_spec : {M : Type 1} → statement M
+choose_first_spec =
     tie.close
     (tie.spec
     invariant-loop

@@ -11,87 +11,69 @@ use Prim.Native.Nat.{ℕ, ◌-◌, ◌≤◌}
 use Rattle.separations.proofs.number_classes.Statement.{statement}
 use Rattle.separations.proofs.number_classes.Tie as tie
 
-abbrev invariant-loop : tie.invariant-loop
+abbrev invariant-loop : tie.invariant-loop-i
 invariant-loop w₀ n count₀ i₀ w count i = (i ≤ n) × (length w ≡ length w₀) × Numbering w₀ n i w count
 
-abbrev decreases-loop : tie.decreases-loop
+abbrev decreases-loop : tie.decreases-loop-i
 decreases-loop w₀ n count₀ i₀ w count i = n - i
 
 -- ---- the stages of the function, each from a later one
-abbrev start-of-choose-first : tie.After-choose-first invariant-loop decreases-loop → tie.Start invariant-loop decreases-loop
-start-of-choose-first s = s.before.before.before
-
-abbrev choose-first-of-at-loop : tie.At-loop invariant-loop decreases-loop → tie.After-choose-first invariant-loop decreases-loop
-choose-first-of-at-loop s = s.before.before.before
-
-abbrev at-loop-of-number-class : tie.After-number-class invariant-loop decreases-loop → tie.At-loop invariant-loop decreases-loop
-at-loop-of-number-class s = s.before.before.before
-
 -- ---- what is left to show
-choose-first-requires : tie.Need-choose-first-requires invariant-loop decreases-loop
+choose-first-requires : tie.Need-choose_first-requires invariant-loop decreases-loop
 choose-first-requires c κs =
-    let p = c.before.before.requires in
+    let p = c.requires in
     (p.few, p.long, (λ i l. omega (arith, p.classed.known i l, classed_count p.classed, p.few)))
 
-loop-holds : tie.Need-loop-init invariant-loop decreases-loop
-loop-holds c = (omega arith, refl, numbering_first c.before.before.choose-first.new.0 c.before.before.before.before.before.args.n)
+loop-holds : tie.Need-loop-i-init invariant-loop decreases-loop
+loop-holds c = (omega arith, refl, numbering_first c.choose_first.new.work c.args.n)
 
-number-class-requires : tie.Need-number-class-requires invariant-loop decreases-loop
+number-class-requires : tie.Need-number_class-count-requires invariant-loop decreases-loop
 number-class-requires c κs =
-    let at-loop = c.before.before in
-    let at-choose-first = choose-first-of-at-loop at-loop in
-    let b = start-of-choose-first at-choose-first in
-    let g = b.args in
-    let p = b.pre in
-    let l = at-loop.loop in
-    let h = at-choose-first.choose-first in
+    let g = c.args in
+    let p = c.requires in
+    let l = c.loop-i in
+    let h = c.choose_first in
     let N = l.invariant.2 in (
       omega (arith, p.few),
       omega (arith, p.few, N.few),
-      numbering_class h.last.0 g.n p.count (firsts_classed h.ensures p.few p.classed) (firsts_chosen h.ensures p.few)
-          p.few (omega (arith, p.long, h.ensures.only.long)) l.i c.before.loop-test.true l.work l.count N,
+      numbering_class h.new.work g.n p.count (firsts_classed h.ensures p.few p.classed) (firsts_chosen h.ensures p.few)
+          p.few (omega (arith, p.long, h.ensures.only.long)) l.i c.loop-i-test.true l.work l.count N,
       omega (arith, p.long, h.ensures.only.long, l.invariant.1),
     )
 
-add-i : tie.Need-overflow-add-i invariant-loop decreases-loop
+add-i : tie.Need-overflow_add-i invariant-loop decreases-loop
 add-i c = search rules
 
-loop-less : tie.Need-loop-smaller invariant-loop decreases-loop
+loop-less : tie.Need-loop-i-smaller invariant-loop decreases-loop
 loop-less c = search rules
 
-loop-again : tie.Need-loop-preserved invariant-loop decreases-loop
+loop-again : tie.Need-loop-i-preserved invariant-loop decreases-loop
 loop-again c =
-    let at-number-class = c.before.before in
-    let at-loop = at-loop-of-number-class at-number-class in
-    let at-choose-first = choose-first-of-at-loop at-loop in
-    let b = start-of-choose-first at-choose-first in
-    let g = b.args in
-    let p = b.pre in
-    let l = at-loop.loop in
-    let h = at-choose-first.choose-first in
-    let s = at-number-class.number-class in
-    let x = numbering_next h.last.0 g.n p.count (firsts_classed h.ensures p.few p.classed)
+    let g = c.args in
+    let p = c.requires in
+    let l = c.loop-i in
+    let h = c.choose_first in
+    let s = c.number_class-count in
+    let x = numbering_next h.new.work g.n p.count (firsts_classed h.ensures p.few p.classed)
     (firsts_chosen h.ensures p.few) p.few (omega (arith, p.long, h.ensures.only.long)) l.i
-    c.before.before.before.before.loop-test.true
-    l.work l.count l.inv.2 s.new.0 s.result s.ensures in
+    c.loop-i-test.true
+    l.work l.count l.invariant.2 s.new.work s.result s.ensures in
     (omega arith, x.only.long, x)
 
-same_length : tie.Need-same-length invariant-loop decreases-loop
+same_length : tie.Need-shape_of-work invariant-loop decreases-loop
 same_length c = search rules
 
 returns : tie.Need-returns invariant-loop decreases-loop
 returns c =
-    let at-loop = c.before in
-    let at-choose-first = choose-first-of-at-loop at-loop in
-    let g = (start-of-choose-first at-choose-first).args in
-    let l = at-loop.loop in
-    let h = at-choose-first.choose-first in
+    let g = c.args in
+    let l = c.loop-i in
+    let h = c.choose_first in
     let e : l.i ≡ g.n = omega arith in
-    renumbered h.last.0 g.n l.work l.count (subst (λ (z : ℕ). Numbering h.last.0 g.n z l.work l.count) e l.invariant.2)
+    renumbered h.new.work g.n l.work l.count (subst (λ (z : ℕ). Numbering h.new.work g.n z l.work l.count) e l.invariant.2)
     g.work.now h.ensures
 
-pub number-classes-spec : {M : Type 1} → statement M
-number-classes-spec =
+pub number_classes_spec : {M : Type 1} → statement M
+number_classes_spec =
     tie.close
     (tie.spec
     invariant-loop

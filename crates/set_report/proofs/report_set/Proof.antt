@@ -10,158 +10,95 @@ use Rattle.set_report.proofs.report_set.Statement.{statement}
 use Rattle.set_report.proofs.report_set.Tie as tie
 
 -- ---- the stages of the function, each from a later one
-abbrev refine-of-find-member : tie.After-find-member → tie.After-refine
-refine-of-find-member s = s.before.before.before.before.before.before
-
-abbrev find-member-of-trail : tie.After-trail → tie.After-find-member
-find-member-of-trail s = s.before.before.before.before.before.before.before
-
-abbrev refine-of-trail : tie.After-trail → tie.After-refine
-refine-of-trail s = refine-of-find-member (find-member-of-trail s)
-
-abbrev number-classes-of-report-length : tie.After-report-length → tie.After-number-classes
-number-classes-of-report-length s = s.before.before.before.before
-
-abbrev report-length-of-put-report : tie.After-put-report → tie.After-report-length
-report-length-of-put-report s = s.before.before.before.before
-
 -- ---- what is left to show
-refine-requires : tie.Need-refine-requires
-refine-requires c κs = rounds_ready c.before.before.before.requires
+refine-requires : tie.Need-refine-rounds-requires
+refine-requires c κs = rounds_ready c.requires
 
-add-last : tie.Need-overflow-add-last
+add-last : tie.Need-overflow_add-last
 add-last c = search rules
 
 numbers-requires : tie.Need-numbers-requires
 numbers-requires c κs = search rules
 
-find-member-requires : tie.Need-find-member-requires
+find-member-requires : tie.Need-find_member-left-requires
 find-member-requires c κs = search rules
 
 numbers-requires-2 : tie.Need-numbers-requires-2
 numbers-requires-2 c κs = search rules
 
-find-member-requires-2 : tie.Need-find-member-requires-2
+find-member-requires-2 : tie.Need-find_member-right-requires
 find-member-requires-2 c κs = search rules
 
-apart-at-requires : tie.Need-apart-at-requires
+apart-at-requires : tie.Need-apart_at-apart-requires
 apart-at-requires c κs =
-    let g = c.before in
-    let y = g.before in
-    let f = y.before.before in
-    let x = f.before in
-    let r = x.before.before.before.before.before in
-    let b = r.before.before.before.before in
-    let S = b.requires.starts in
-    let H = r.refine.ensures.0.rounds_held b.requires.sheet b.requires.set (starts_ready S) in
-    let i = member_found H (configuration b.args.p) S.left x.numbers.result f.find-member.result x.numbers.ensures
-    f.find-member.ensures in
-    let j = member_found H (configuration b.args.q) S.right y.numbers2.result g.find-member2.result
-    y.numbers2.ensures g.find-member2.ensures in
+    let S = c.requires.starts in
+    let H = c.refine-rounds.ensures.0.rounds_held c.requires.sheet c.requires.set (starts_ready S) in
+    let i = member_found H (configuration c.args.p) S.left c.numbers.result c.find_member-left.result c.numbers.ensures
+    c.find_member-left.ensures in
+    let j = member_found H (configuration c.args.q) S.right c.numbers-2.result c.find_member-right.result
+    c.numbers-2.ensures c.find_member-right.ensures in
     let few = H.ready.held.few.0 in (
       omega (arith, i.0),
       omega (arith, j.0),
-      places_fall (rounds_fall H) f.find-member.result g.find-member2.result i.0 j.0,
+      places_fall (rounds_fall H) c.find_member-left.result c.find_member-right.result i.0 j.0,
     )
 
-trail-requires : tie.Need-trail-requires
+trail-requires : tie.Need-trail-steps-requires
 trail-requires c κs =
-    let g = c.before.before.before in
-    let y = g.before in
-    let f = y.before.before in
-    let x = f.before in
-    let r = x.before.before.before.before.before in
-    let b = r.before.before.before.before in
-    let S = b.requires.starts in
-    let H = r.refine.ensures.0.rounds_held b.requires.sheet b.requires.set (starts_ready S) in
-    let i = member_found H (configuration b.args.p) S.left x.numbers.result f.find-member.result x.numbers.ensures
-    f.find-member.ensures in
-    let j = member_found H (configuration b.args.q) S.right y.numbers2.result g.find-member2.result
-    y.numbers2.ensures g.find-member2.ensures in
-    (rounds_follow H (r.refine.ensures.1 b.requires.sheet b.requires.set (starts_ready S)), i.0, j.0)
+    let S = c.requires.starts in
+    let H = c.refine-rounds.ensures.0.rounds_held c.requires.sheet c.requires.set (starts_ready S) in
+    let i = member_found H (configuration c.args.p) S.left c.numbers.result c.find_member-left.result c.numbers.ensures
+    c.find_member-left.ensures in
+    let j = member_found H (configuration c.args.q) S.right c.numbers-2.result c.find_member-right.result
+    c.numbers-2.ensures c.find_member-right.ensures in
+    (rounds_follow H (c.refine-rounds.ensures.1 c.requires.sheet c.requires.set (starts_ready S)), i.0, j.0)
 
-number-classes-requires : tie.Need-number-classes-requires
+number-classes-requires : tie.Need-number_classes-requires
 number-classes-requires c κs =
-    let t = c.before.before.before in
-    let r = refine-of-trail t in
-    let b = r.before.before.before.before in
-    let H = r.refine.ensures.0.rounds_held b.pre.sheet b.pre.set (starts_ready b.pre.starts) in
-    rounds_numbered H t.trail.ensures.outside
+    let H = c.refine-rounds.ensures.0.rounds_held c.requires.sheet c.requires.set (starts_ready c.requires.starts) in
+    rounds_numbered H c.trail-steps.ensures.outside
 
-report-length-requires : tie.Need-report-length-requires
+report-length-requires : tie.Need-report_length-length-requires
 report-length-requires c κs =
-    let d = c.before.before.before in
-    let t = d.before.before.before.before in
-    let r = refine-of-trail t in
-    let b = r.before.before.before.before in
-    report_held r.refine.ensures.0 t.trail.ensures d.number-classes.ensures r.refine.ensures.1 b.pre.starts
+    report_held c.refine-rounds.ensures.0 c.trail-steps.ensures c.number_classes.ensures c.refine-rounds.ensures.1 c.requires.starts
 
-same_length : tie.Need-same-length
+same_length : tie.Need-shape_of-work-then-answer-length
 same_length c = search rules
 
-returns : tie.Need-returns
+returns : tie.Need-returns-then-answer-length
 returns c =
-    let l = c.before in
-    let d = l.before.before.before.before in
-    let t = d.before.before.before.before in
-    let a = t.before.before in
-    let g = a.before.before in
-    let y = g.before in
-    let f = y.before.before in
-    let x = f.before in
-    let r = x.before.before.before.before.before in
-    let b = r.before.before.before.before in
-    made_short r.refine.ensures.0 r.refine.ensures.1 t.trail.ensures d.number-classes.ensures b.args.p b.args.q x.numbers.result
-    y.numbers2.result x.numbers.ensures f.find-member.ensures y.numbers2.ensures g.find-member2.ensures
-    l.report_length_lem.result l.report_length_lem.ensures b.args.answer.now
-    c.if1.true
+    made_short c.refine-rounds.ensures.0 c.refine-rounds.ensures.1 c.trail-steps.ensures c.number_classes.ensures c.args.p c.args.q c.numbers.result
+    c.numbers-2.result c.numbers.ensures c.find_member-left.ensures c.numbers-2.ensures c.find_member-right.ensures
+    c.report_length-length.result c.report_length-length.ensures c.args.answer.now
+    c.if-answer-length.true
 
-put-report-requires : tie.Need-put-report-requires
-put-report-requires c κs =
-    let l = c.before.before.before in
-    let d = l.before.before.before.before in
-    let t = d.before.before.before.before in
-    let r = refine-of-trail t in
-    let b = r.before.before.before.before in (
-      report_held r.refine.ensures.0 t.trail.ensures d.number-classes.ensures r.refine.ensures.1 b.pre.starts,
-      omega (arith, l.report_length_lem.ensures, c.before.before.if1.false),
-    )
+put-report-requires : tie.Need-put_report-requires
+put-report-requires c κs = (
+  report_held c.refine-rounds.ensures.0 c.trail-steps.ensures c.number_classes.ensures c.refine-rounds.ensures.1 c.requires.starts,
+  omega (arith, c.report_length-length.ensures, c.if-answer-length.false),
+)
 
-verdict-on-requires : tie.Need-verdict-on-requires
+verdict-on-requires : tie.Need-verdict_on-requires
 verdict-on-requires c κs = search rules
 
-same-length-2 : tie.Need-same-length-2
+same-length-2 : tie.Need-shape_of-work
 same-length-2 c =
-    let d = number-classes-of-report-length (report-length-of-put-report c.before.before.before) in
-    let t = d.before.before.before.before in
-    let r = refine-of-trail t in
-    (report_outside r.refine.ensures.0 t.trail.ensures d.number-classes.ensures).long
+    (report_outside c.refine-rounds.ensures.0 c.trail-steps.ensures c.number_classes.ensures).long
 
-same-length-3 : tie.Need-same-length-3
+same-length-3 : tie.Need-shape_of-answer
 same-length-3 c = search rules
 
-returns-2 : tie.Need-returns-2
+returns-2 : tie.Need-returns
 returns-2 c =
-    let o = c.before.before.before in
-    let l = o.before.before.before.before in
-    let d = l.before.before.before.before in
-    let t = d.before.before.before.before in
-    let a = t.before.before in
-    let g = a.before.before in
-    let y = g.before in
-    let f = y.before.before in
-    let x = f.before in
-    let r = x.before.before.before.before.before in
-    let b = r.before.before.before.before in
-    rw c.verdict-on.ensures
-    (made_reported r.refine.ensures.0 r.refine.ensures.1 t.trail.ensures d.number-classes.ensures b.args.p b.args.q
-    x.numbers.result y.numbers2.result x.numbers.ensures f.find-member.ensures y.numbers2.ensures
-    g.find-member2.ensures l.report_length_lem.result l.report_length_lem.ensures b.args.answer.now
-    (omega (arith, c.before.before.before.before.before.before.if1.false)) a.apart_at_lem.result a.apart_at_lem.ensures
-    o.put-report.new.1.1.1.0 o.put-report.ensures)
+    rw c.verdict_on.ensures
+    (made_reported c.refine-rounds.ensures.0 c.refine-rounds.ensures.1 c.trail-steps.ensures c.number_classes.ensures c.args.p c.args.q
+    c.numbers.result c.numbers-2.result c.numbers.ensures c.find_member-left.ensures c.numbers-2.ensures
+    c.find_member-right.ensures c.report_length-length.result c.report_length-length.ensures c.args.answer.now
+    (omega (arith, c.if-answer-length.false)) c.apart_at-apart.result c.apart_at-apart.ensures
+    c.put_report.new.out c.put_report.ensures)
 
-pub report-set-spec : {M : Type 1} → statement M
-report-set-spec =
+pub report_set_spec : {M : Type 1} → statement M
+report_set_spec =
     tie.close
     (tie.spec
     refine-requires

@@ -10,72 +10,55 @@ use Rattle.sheet_reader.proofs.read_choice.Statement.{statement}
 use Rattle.sheet_reader.proofs.read_choice.Tie as tie
 
 -- ---- the stages of the function, each from a later one
-abbrev start-of-read-sheet : tie.After-read-sheet → tie.Start
-start-of-read-sheet s = s.before.before
-
-abbrev read-sheet-of-answer : tie.After-answer → tie.After-read-sheet
-read-sheet-of-answer s = s.before.before
-
-abbrev answer-of-else1 : tie.Else1 → tie.After-answer
-answer-of-else1 s = s.before.before
-
 -- ---- what is left to show
-read-sheet-requires : tie.Need-read-sheet-requires
+read-sheet-requires : tie.Need-read_sheet-r-requires
 read-sheet-requires c κs = search rules
 
-enum-known-answer : tie.Need-enum-known-answer
+enum-known-answer : tie.Need-enum_known-answer
 enum-known-answer c = search rules
 
-enum_told : tie.Need-enum-told
+enum_told : tie.Need-enum_told-1
 enum_told c = search rules
 
-returns : tie.Need-returns
+returns : tie.Need-returns-in_default
 returns c =
-    let a = c.before.before.before.before.args in
-    let r = c.before.before.read-sheet in
-    let told = c.enum_told.given.1 in
+    let a = c.args in
+    let r = c.read_sheet-r in
+    let told = c.in_default.is in
     refusal_up (read_sheet a.s.now) (read_choice a.s.now a.left a.right) r.result r.ensures told
     (choice_no_sheet a.s.now a.left a.right (with_refused (λ _. sheet_of r.result.sheet) r.ensures.reading told))
 
-cast-starts : tie.Need-overflow-cast-starts
+cast-starts : tie.Need-overflow_cast-starts
 cast-starts c = search rules
 
-no-sheet-requires : tie.Need-no-sheet-requires
+no-sheet-requires : tie.Need-no_sheet-requires
 no-sheet-requires c κs = search rules
 
-returns-2 : tie.Need-returns-2
+returns-2 : tie.Need-returns-then-starts-left
 returns-2 c =
-    let at-answer = c.before.before.before in
-    let at-read-sheet = read-sheet-of-answer at-answer in
-    let a = (start-of-read-sheet at-read-sheet).args in
-    let r = at-read-sheet.read-sheet in
-    sheet_refused (read_choice a.s.now a.left a.right) c.no-sheet.result c.no-sheet.ensures refl
-    (found_no_left a.s.now a.left a.right r.result r.ensures at-answer.answer.given.1 c.before.if1.true)
+    let a = c.args in
+    let r = c.read_sheet-r in
+    sheet_refused (read_choice a.s.now a.left a.right) c.no_sheet.result c.no_sheet.ensures refl
+    (found_no_left a.s.now a.left a.right r.result r.ensures c.in-Got.is c.if-starts-left.true)
 
-no-sheet-requires-2 : tie.Need-no-sheet-requires-2
+no-sheet-requires-2 : tie.Need-no_sheet-requires-then-starts-right
 no-sheet-requires-2 c κs = search rules
 
-returns-3 : tie.Need-returns-3
+returns-3 : tie.Need-returns-then-starts-right
 returns-3 c =
-    let at-else1 = c.before.before in
-    let at-answer = answer-of-else1 at-else1 in
-    let at-read-sheet = read-sheet-of-answer at-answer in
-    let a = (start-of-read-sheet at-read-sheet).args in
-    let r = at-read-sheet.read-sheet in
-    sheet_refused (read_choice a.s.now a.left a.right) c.no-sheet2.result c.no-sheet2.ensures refl
-    (found_no_right a.s.now a.left a.right r.result r.ensures at-answer.answer.given.1 at-else1.if1.false c.before.if2.true)
+    let a = c.args in
+    let r = c.read_sheet-r in
+    sheet_refused (read_choice a.s.now a.left a.right) c.no_sheet-then-starts-right.result c.no_sheet-then-starts-right.ensures refl
+    (found_no_right a.s.now a.left a.right r.result r.ensures c.in-Got.is c.if-starts-left.false c.if-starts-right.true)
 
-returns-4 : tie.Need-returns-4
+returns-4 : tie.Need-returns
 returns-4 c =
-    let at-else1 = c.before in
-    let at-answer = answer-of-else1 at-else1 in
-    let at-read-sheet = read-sheet-of-answer at-answer in
-    let a = (start-of-read-sheet at-read-sheet).args in
-    let r = at-read-sheet.read-sheet in
-    found_chosen a.s.now a.left a.right r.result r.ensures at-answer.answer.given.1 at-else1.if1.false c.if2.false
+    let a = c.args in
+    let r = c.read_sheet-r in
+    found_chosen a.s.now a.left a.right r.result r.ensures c.in-Got.is c.if-starts-left.false c.if-starts-right.false
 
-pub read-choice-spec : {M : Type 1} → statement M
-read-choice-spec =
+pub read_choice_spec : {M : Type 1} → statement M
+read_choice_spec =
     tie.close
     (tie.spec
     read-sheet-requires

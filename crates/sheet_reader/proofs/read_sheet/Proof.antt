@@ -22,229 +22,160 @@ use Rattle.sheet_reader.proofs.read_sheet.Statement.{statement}
 use Rattle.sheet_reader.proofs.read_sheet.Tie as tie
 
 -- ---- the stages of the function, each from a later one
-abbrev f-of-rules-at : tie.After-rules-at → tie.After-f
-f-of-rules-at s = s.before.before
-
-abbrev facts-at-of-f : tie.After-f → tie.After-facts-at
-facts-at-of-f s = s.before.before
-
-abbrev start-of-facts-at : tie.After-facts-at → tie.Start
-start-of-facts-at s = s.before.before
-
-abbrev rules-at-of-g : tie.After-g → tie.After-rules-at
-rules-at-of-g s = s.before.before
-
-abbrev g-of-nodes-at : tie.After-nodes-at → tie.After-g
-g-of-nodes-at s = s.before.before.before.before
-
-abbrev nodes-at-of-h : tie.After-h → tie.After-nodes-at
-nodes-at-of-h s = s.before.before
-
-abbrev h-of-table : tie.After-table → tie.After-h
-h-of-table s = s.before.before
-
-abbrev table-of-starts-at : tie.After-starts-at → tie.After-table
-table-of-starts-at s = s.before.before.before
-
-abbrev h-of-starts-at : tie.After-starts-at → tie.After-h
-h-of-starts-at s = h-of-table (table-of-starts-at s)
-
-abbrev starts-at-of-k : tie.After-k → tie.After-starts-at
-starts-at-of-k s = s.before.before
-
-abbrev start-of-f : tie.After-f → tie.Start
-start-of-f s = start-of-facts-at (facts-at-of-f s)
-
-abbrev f-of-g : tie.After-g → tie.After-f
-f-of-g s = f-of-rules-at (rules-at-of-g s)
-
-abbrev start-of-g : tie.After-g → tie.Start
-start-of-g s = start-of-f (f-of-g s)
-
-abbrev g-of-h : tie.After-h → tie.After-g
-g-of-h s = g-of-nodes-at (nodes-at-of-h s)
-
-abbrev h-of-k : tie.After-k → tie.After-h
-h-of-k s = h-of-starts-at (starts-at-of-k s)
-
 -- ---- what was read at each stage: a value, and where it ends
-facts-got : (s : tie.After-f)
-    → let f = s.f.given.0 in
-    facts_at (start-of-f s).args.s.now 0 ≡ got f.0 f.1.0
-facts-got s = answer_got (facts-at-of-f s).facts_at.ensures s.f.given.1
+facts-got : (s : tie.In-Got)
+    → facts_at s.args.s.now 0 ≡ got s.in-Got.facts s.in-Got.p
+facts-got s = answer_got s.facts_at-f.ensures s.in-Got.is
 
-facts_few : (s : tie.After-f) → s.f.given.0.0 ≤ max_facts
-facts_few s = ((facts_gets (start-of-f s).args.s.now 0).holds _ _ (facts-got s)).0
+facts_few : (s : tie.In-Got) → s.in-Got.facts ≤ max_facts
+facts_few s = ((facts_gets s.args.s.now 0).holds _ _ (facts-got s)).0
 
-abbrev rule-numbers : tie.After-g → List ℕ
-rule-numbers s = (rules-at-of-g s).rules-at.result.rules
+abbrev rule-numbers : tie.In-Got-g → List ℕ
+rule-numbers s = s.rules_at-x.result.rules
 
-rules-got : (s : tie.After-g)
-    → let f = (f-of-g s).f.given.0 in
-    let g = s.g.given.0 in
-    rules_at f.0 (start-of-g s).args.s.now f.1.0 ≡ got (rules_in (rule-numbers s) g.0) g.1.0
-rules-got s = with_got (rules_in (rule-numbers s)) (rules-at-of-g s).rules-at.ensures.reading s.g.given.1
+rules-got : (s : tie.In-Got-g)
+    → rules_at s.in-Got.facts s.args.s.now s.in-Got.p ≡ got (rules_in (rule-numbers s) s.in-Got-g.rule_count) s.in-Got-g.q
+rules-got s = with_got (rules_in (rule-numbers s)) s.rules_at-x.ensures.reading s.in-Got-g.is
 
-rules_few : (s : tie.After-g) → s.g.given.0.0 ≤ max_rules
+rules_few : (s : tie.In-Got-g) → s.in-Got-g.rule_count ≤ max_rules
 rules_few s =
-    count_few (rule-numbers s) _ ((rules_gets _ (start-of-g s).args.s.now _).holds _ _ (rules-got s)).0.few
+    count_few (rule-numbers s) _ ((rules_gets _ s.args.s.now _).holds _ _ (rules-got s)).0.few
 
-abbrev nodes-of : tie.After-h → List Node
-nodes-of s = nodes_in (nodes_of (nodes-at-of-h s).nodes-at.result.table) s.h.given.0.0
+abbrev nodes-of : tie.In-Got-h → List Node
+nodes-of s = nodes_in (nodes_of s.nodes_at-y.result.table) s.in-Got-h.node_count
 
-nodes-got : (s : tie.After-h)
-    → let at_g = g-of-h s in
-    let g = at_g.g.given.0 in
-    nodes_at (f-of-g at_g).f.given.0.0 (rules_in (rule-numbers at_g) g.0) (start-of-g at_g).args.s.now g.1.0
-    ≡ got (nodes-of s) s.h.given.0.1.0
-nodes-got s = with_got (nodes_in (nodes_of (nodes-at-of-h s).nodes-at.result.table)) (nodes-at-of-h s).nodes-at.ensures.reading s.h.given.1
+nodes-got : (s : tie.In-Got-h)
+    →
+    nodes_at s.in-Got.facts (rules_in (rule-numbers s.before.before.before.before) s.in-Got-g.rule_count) s.args.s.now s.in-Got-g.q
+    ≡ got (nodes-of s) s.in-Got-h.t
+nodes-got s = with_got (nodes_in (nodes_of s.nodes_at-y.result.table)) s.nodes_at-y.ensures.reading s.in-Got-h.is
 
-nodes-table : (s : tie.After-h) → NodeTable (nodes-of s) (nodes-at-of-h s).nodes-at.result.table
-nodes-table s = ((nodes-at-of-h s).nodes-at.ensures.held _ _ s.h.given.1).table
+nodes-table : (s : tie.In-Got-h) → NodeTable (nodes-of s) s.nodes_at-y.result.table
+nodes-table s = (s.nodes_at-y.ensures.held _ _ s.in-Got-h.is).table
 
-nodes-opened : (s : tie.After-h) → TableOf s.h.given.0.0 (opened_of (nodes-at-of-h s).nodes-at.result.table) (nodes-of s)
+nodes-opened : (s : tie.In-Got-h) → TableOf s.in-Got-h.node_count (opened_of s.nodes_at-y.result.table) (nodes-of s)
 nodes-opened s =
     record {
-      long = tabulate_length (node_in (nodes_of (nodes-at-of-h s).nodes-at.result.table)) s.h.given.0.0;
+      long = tabulate_length (node_in (nodes_of s.nodes_at-y.result.table)) s.in-Got-h.node_count;
       table = (nodes-table s).opened;
     }
 
-starts-got : (s : tie.After-k)
-    → let at-h = h-of-k s in
-    let at_g = g-of-h at-h in
-    starts_at (f-of-g at_g).f.given.0.0 (rules_in (rule-numbers at_g) at_g.g.given.0.0) (nodes-of at-h) (start-of-g at_g).args.s.now at-h.h.given.0.1.0
-    ≡ got (starts_in (starts-at-of-k s).starts-at.result.starts s.k.given.0.0) s.k.given.0.1.0
+starts-got : (s : tie.In-Got-k)
+    →
+    starts_at s.in-Got.facts (rules_in (rule-numbers s.before.before.before.before.before.before.before.before.before) s.in-Got-g.rule_count) (nodes-of s.before.before.before.before.before) s.args.s.now s.in-Got-h.t
+    ≡ got (starts_in s.starts_at-z.result.starts s.in-Got-k.start_count) s.in-Got-k.end
 starts-got s =
-    let at-h = h-of-k s in
-    let z = (starts-at-of-k s).starts-at in
-    with_got (starts_in z.result.starts) (z.ensures.reading (nodes-of at-h) (nodes-opened at-h)) s.k.given.1
+    let z = s.starts_at-z in
+    with_got (starts_in z.result.starts) (z.ensures.reading (nodes-of s.before.before.before.before.before) (nodes-opened s.before.before.before.before.before)) s.in-Got-k.is
 
 -- ---- what is left to show
-facts-at-requires : tie.Need-facts-at-requires
+facts-at-requires : tie.Need-facts_at-f-requires
 facts-at-requires c κs = search rules
 
-enum-known-f : tie.Need-enum-known-f
+enum-known-f : tie.Need-enum_known-f
 enum-known-f c = search rules
 
-enum_told : tie.Need-enum-told
+enum_told : tie.Need-enum_told-1
 enum_told c = search rules
 
-no-sheet-requires : tie.Need-no-sheet-requires
+no-sheet-requires : tie.Need-no_sheet-requires
 no-sheet-requires c κs = search rules
 
-returns : tie.Need-returns
+returns : tie.Need-returns-in_default
 returns c =
-    let at-facts-at = c.before.before.before in
-    let s = (start-of-facts-at at-facts-at).args.s.now in
-    let told = c.before.enum_told.given.1 in
-    sheet_refused (read_sheet s) c.no-sheet.result c.no-sheet.ensures told (no_facts s (answer_refused at-facts-at.facts_at.ensures told))
+    let s = c.args.s.now in
+    let told = c.in_default.is in
+    sheet_refused (read_sheet s) c.no_sheet.result c.no_sheet.ensures told (no_facts s (answer_refused c.facts_at-f.ensures told))
 
-rules-at-requires : tie.Need-rules-at-requires
+rules-at-requires : tie.Need-rules_at-x-requires
 rules-at-requires c κs =
-    let at_f = c.before in
-    let s = (start-of-f at_f).args.s.now in
-    (((facts_gets s 0).holds _ _ (facts-got at_f)).1.within, facts_few at_f)
+    let s = c.args.s.now in
+    (((facts_gets s 0).holds _ _ (facts-got c)).1.within, facts_few c)
 
-enum-known-g : tie.Need-enum-known-g
+enum-known-g : tie.Need-enum_known-g
 enum-known-g c = search rules
 
-enum-told-2 : tie.Need-enum-told-2
+enum-told-2 : tie.Need-enum_told-in_default-g
 enum-told-2 c = search rules
 
-no-sheet-requires-2 : tie.Need-no-sheet-requires-2
+no-sheet-requires-2 : tie.Need-no_sheet-requires-in_default-g
 no-sheet-requires-2 c κs = search rules
 
-returns-2 : tie.Need-returns-2
+returns-2 : tie.Need-returns-in_default-g
 returns-2 c =
-    let at-rules-at = c.before.before.before in
-    let at_f = f-of-rules-at at-rules-at in
-    let s = (start-of-f at_f).args.s.now in
-    let x = at-rules-at.rules-at in
-    let told = c.before.enum-told2.given.1 in
-    sheet_refused (read_sheet s) c.no-sheet2.result c.no-sheet2.ensures told
-    (no_rules s (facts-got at_f) (with_refused (rules_in x.result.rules) x.ensures.reading told))
+    let s = c.args.s.now in
+    let x = c.rules_at-x in
+    let told = c.in_default-g.is in
+    sheet_refused (read_sheet s) c.no_sheet-in_default-g.result c.no_sheet-in_default-g.ensures told
+    (no_rules s (facts-got c.before.before.before) (with_refused (rules_in x.result.rules) x.ensures.reading told))
 
-nodes-at-requires : tie.Need-nodes-at-requires
+nodes-at-requires : tie.Need-nodes_at-y-requires
 nodes-at-requires c κs =
-    let at_g = c.before.before.before in
-    let s = (start-of-g at_g).args.s.now in
-    (((rules_gets _ s _).holds _ _ (rules-got at_g)).0.taken.within, facts_few (f-of-g at_g), rules_few at_g)
+    let s = c.args.s.now in
+    (((rules_gets _ s _).holds _ _ (rules-got c.before.before)).0.taken.within, facts_few c.before.before.before.before, rules_few c.before.before)
 
-enum-known-h : tie.Need-enum-known-h
+enum-known-h : tie.Need-enum_known-h
 enum-known-h c = search rules
 
-enum-told-3 : tie.Need-enum-told-3
+enum-told-3 : tie.Need-enum_told-in_default-h
 enum-told-3 c = search rules
 
-no-sheet-requires-3 : tie.Need-no-sheet-requires-3
+no-sheet-requires-3 : tie.Need-no_sheet-requires-in_default-h
 no-sheet-requires-3 c κs = search rules
 
-returns-3 : tie.Need-returns-3
+returns-3 : tie.Need-returns-in_default-h
 returns-3 c =
-    let at-nodes-at = c.before.before.before in
-    let at_g = g-of-nodes-at at-nodes-at in
-    let s = (start-of-g at_g).args.s.now in
-    let y = at-nodes-at.nodes-at in
-    let told = c.before.enum-told3.given.1 in
-    sheet_refused (read_sheet s) c.no-sheet3.result c.no-sheet3.ensures told
-    (no_nodes_lem s (facts-got (f-of-g at_g)) (rules-got at_g) (with_refused (nodes_in (nodes_of y.result.table)) y.ensures.reading told))
+    let s = c.args.s.now in
+    let y = c.nodes_at-y in
+    let told = c.in_default-h.is in
+    sheet_refused (read_sheet s) c.no_sheet-in_default-h.result c.no_sheet-in_default-h.ensures told
+    (no_nodes_lem s (facts-got c.before.before.before.before.before.before.before) (rules-got c.before.before.before.before.before) (with_refused (nodes_in (nodes_of y.result.table)) y.ensures.reading told))
 
-starts-at-requires : tie.Need-starts-at-requires
+starts-at-requires : tie.Need-starts_at-z-requires
 starts-at-requires c κs =
-    let at-h = h-of-table c.before.before in
-    let at_g = g-of-h at-h in
-    let y = (nodes-at-of-h at-h).nodes-at in
-    let m = y.ensures.held _ _ at-h.h.given.1 in
-    (m.within, facts_few (f-of-g at_g), rules_few at_g, m.few, m.room, subst (Few (opened_of y.result.table)) (nodes-opened at-h).long m.table.opened.few)
+    let y = c.nodes_at-y in
+    let m = y.ensures.held _ _ c.in-Got-h.is in
+    (m.within, facts_few c.before.before.before.before.before.before.before.before.before, rules_few c.before.before.before.before.before.before.before, m.few, m.room, subst (Few (opened_of y.result.table)) (nodes-opened c.before.before.before).long m.table.opened.few)
 
-enum-known-k : tie.Need-enum-known-k
+enum-known-k : tie.Need-enum_known-k
 enum-known-k c = search rules
 
-enum-told-4 : tie.Need-enum-told-4
+enum-told-4 : tie.Need-enum_told-in_default-k
 enum-told-4 c = search rules
 
-no-sheet-requires-4 : tie.Need-no-sheet-requires-4
+no-sheet-requires-4 : tie.Need-no_sheet-requires-in_default-k
 no-sheet-requires-4 c κs = search rules
 
-returns-4 : tie.Need-returns-4
+returns-4 : tie.Need-returns-in_default-k
 returns-4 c =
-    let at-starts-at = c.before.before.before in
-    let at-h = h-of-starts-at at-starts-at in
-    let at_g = g-of-h at-h in
-    let s = (start-of-g at_g).args.s.now in
-    let z = at-starts-at.starts-at in
-    let told = c.before.enum-told4.given.1 in
-    sheet_refused (read_sheet s) c.no-sheet4.result c.no-sheet4.ensures told
-    (no_starts_lem s (facts-got (f-of-g at_g)) (rules-got at_g) (nodes-got at-h)
-    (with_refused (starts_in z.result.starts) (z.ensures.reading (nodes-of at-h) (nodes-opened at-h)) told))
+    let s = c.args.s.now in
+    let z = c.starts_at-z in
+    let told = c.in_default-k.is in
+    sheet_refused (read_sheet s) c.no_sheet-in_default-k.result c.no_sheet-in_default-k.ensures told
+    (no_starts_lem s (facts-got c.before.before.before.before.before.before.before.before.before.before.before.before) (rules-got c.before.before.before.before.before.before.before.before.before.before) (nodes-got c.before.before.before.before.before.before)
+    (with_refused (starts_in z.result.starts) (z.ensures.reading (nodes-of c.before.before.before.before.before.before) (nodes-opened c.before.before.before.before.before.before)) told))
 
-no-sheet-requires-5 : tie.Need-no-sheet-requires-5
+no-sheet-requires-5 : tie.Need-no_sheet-requires-then-end-s
 no-sheet-requires-5 c κs = search rules
 
-returns-5 : tie.Need-returns-5
+returns-5 : tie.Need-returns-then-end-s
 returns-5 c =
-    let at-k = c.before.before.before in
-    let at-h = h-of-k at-k in
-    let at_g = g-of-h at-h in
-    let s = (start-of-g at_g).args.s.now in
-    sheet_refused (read_sheet s) c.no-sheet5.result c.no-sheet5.ensures refl
-    (more_bytes s (facts-got (f-of-g at_g)) (rules-got at_g) (nodes-got at-h) (starts-got at-k) c.before.if1.true)
+    let s = c.args.s.now in
+    sheet_refused (read_sheet s) c.no_sheet-then-end-s.result c.no_sheet-then-end-s.ensures refl
+    (more_bytes s (facts-got c.before.before.before.before.before.before.before.before.before.before.before.before.before) (rules-got c.before.before.before.before.before.before.before.before.before.before.before) (nodes-got c.before.before.before.before.before.before.before) (starts-got c.before.before) c.if-end-s.true)
 
-returns-6 : tie.Need-returns-6
+returns-6 : tie.Need-returns
 returns-6 c =
-    let at-k = c.before.before.before in
-    let at-h = h-of-k at-k in
-    let at_g = g-of-h at-h in
-    let s = (start-of-g at_g).args.s.now in
-    let t = (starts-at-of-k at-k).starts-at.ensures.held _ _ at-k.k.given.1 in
+    let s = c.args.s.now in
+    let t = c.starts_at-z.ensures.held _ _ c.in-Got-k.is in
     record {
-      reading = sym (all_read s (facts-got (f-of-g at_g)) (rules-got at_g) (nodes-got at-h) (starts-got at-k) c.before.if1.false);
-      held = λ n end e. record { starts = same_value refl e; table = nodes-table at-h; threads = t.threads };
+      reading = sym (all_read s (facts-got c.before.before.before.before.before.before.before.before.before.before.before.before.before) (rules-got c.before.before.before.before.before.before.before.before.before.before.before) (nodes-got c.before.before.before.before.before.before.before) (starts-got c.before.before) c.if-end-s.false);
+      held = λ n end e. record { starts = same_value refl e; table = nodes-table c.before.before.before.before.before.before.before; threads = t.threads };
       empty = λ number place e. refused_never e refl;
     }
 
-pub read-sheet-spec : {M : Type 1} → statement M
-read-sheet-spec =
+pub read_sheet_spec : {M : Type 1} → statement M
+read_sheet_spec =
     tie.close
     (tie.spec
     facts-at-requires

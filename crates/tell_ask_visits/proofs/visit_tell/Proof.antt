@@ -12,79 +12,58 @@ use Rattle.tell_ask_visits.proofs.visit_tell.Statement.{statement}
 use Rattle.tell_ask_visits.proofs.visit_tell.Tie as tie
 
 -- ---- the stages of the function, each from a later one
-abbrev numbers-of-note : tie.After-note → tie.After-numbers
-numbers-of-note s = s.before.before
-
-abbrev least-of-numbers : tie.After-numbers → tie.After-closure-at2
-least-of-numbers s = s.before.before
-
-abbrev told-of-least : tie.After-closure-at2 → tie.After-closure-at
-told-of-least s = s.before.before
-
-abbrev start-of-told : tie.After-closure-at → tie.Start
-start-of-told s = s.before.before.before.before
-
-abbrev start-of-note : tie.After-note → tie.Start
-start-of-note s = start-of-told (told-of-least (least-of-numbers (numbers-of-note s)))
-
 -- ---- what is noted is the move of the tell
-noted-tell : (s : tie.After-note)
-    → let g = (start-of-note s).args in
+noted-tell : (s : tie.After-note-r)
+    → let g = s.args in
     NotedAs g.work.now g.b.first g.s.running g.b.caps
-    (tell_move g.work.now g.b.store (node_beside g.e).threads g.c) s.note.new.0 s.note.result
+    (tell_move g.work.now g.b.store (node_beside g.e).threads g.c) s.note-r.new.work s.note-r.result
 noted-tell s =
-    let at-numbers = numbers-of-note s in
-    let at_least_lem = least-of-numbers at-numbers in
-    let at_told = told-of-least at_least_lem in
-    let g = (start-of-told at_told).args in
-    let x = at-numbers.numbers in
-    let z = at_least_lem.closure-at2 in
-    let k = at_told.closure_at in
-    noted_named g.work.now g.b.first g.s.running g.b.caps s.note.new.0 s.note.result
+    let g = s.args in
+    let x = s.numbers-x in
+    let z = s.closure_at-least in
+    let k = s.closure_at-told in
+    noted_named g.work.now g.b.first g.s.running g.b.caps s.note-r.new.work s.note-r.result
     z.result (get_or g.work.now 0 0 % 65536) x.result k.result
     (get_or g.work.now (bit_or g.b.store g.c) 0 % 65536) (node_beside g.e).threads z.ensures.entry x.ensures.1 k.ensures.entry
-    s.note.ensures
+    s.note-r.ensures
 
 -- ---- what is left to show
-closure-at-requires : tie.Need-closure-at-requires
-closure-at-requires c κs = let s = c.before.before.before in sum_place s.requires.0 s.args.c s.requires.3
+closure-at-requires : tie.Need-closure_at-told-requires
+closure-at-requires c κs = sum_place c.requires.0 c.args.c c.requires.3
 
-closure-at-requires-2 : tie.Need-closure-at-requires-2
+closure-at-requires-2 : tie.Need-closure_at-least-requires
 closure-at-requires-2 c κs = search rules
 
-numbers-requires : tie.Need-numbers-requires
+numbers-requires : tie.Need-numbers-x-requires
 numbers-requires c κs = search rules
 
-note-requires : tie.Need-note-requires
+note-requires : tie.Need-note-r-requires
 note-requires c κs = search rules
 
-enum-known-r : tie.Need-enum-known-r
+enum-known-r : tie.Need-enum_known-r
 enum-known-r c = search rules
 
-enum_told : tie.Need-enum-told
+enum_told : tie.Need-enum_told-1
 enum_told c = search rules
 
-same_length : tie.Need-same-length
+same_length : tie.Need-shape_of-work-in_default
 same_length c = search rules
 
-returns : tie.Need-returns
+returns : tie.Need-returns-in_default
 returns c =
-    let at-note = c.before.before.before.before in
-    let P = (start-of-note at-note).requires in
-    record { turned = λ nodes of q. tell_over P.0 P.1 P.3 nodes of q (noted_full c.enum_told.given.1 (noted-tell at-note)) }
+    let P = c.requires in
+    record { turned = λ nodes of q. tell_over P.0 P.1 P.3 nodes of q (noted_full c.in_default.is (noted-tell c.before.before.before)) }
 
-same-length-2 : tie.Need-same-length-2
+same-length-2 : tie.Need-shape_of-work
 same-length-2 c = search rules
 
-returns-2 : tie.Need-returns-2
+returns-2 : tie.Need-returns
 returns-2 c =
-    let at-r = c.before.before in
-    let at-note = at-r.before.before.before.before in
-    let P = (start-of-note at-note).requires in
-    record { turned = λ nodes of q. tell_turn P.0 P.1 P.3 nodes of q (noted_on at-r.r.given.1 (noted-tell at-note)) }
+    let P = c.requires in
+    record { turned = λ nodes of q. tell_turn P.0 P.1 P.3 nodes of q (noted_on c.in-On.is (noted-tell c.before.before.before.before)) }
 
-pub visit-tell-spec : {M : Type 1} → statement M
-visit-tell-spec =
+pub visit_tell_spec : {M : Type 1} → statement M
+visit_tell_spec =
     tie.close
     (tie.spec
     closure-at-requires

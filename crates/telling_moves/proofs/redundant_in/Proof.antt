@@ -6,100 +6,100 @@ use Rattle.telling_moves.specs.TrailTests.{NotRedundant, redundant_first, redund
 use Rattle.telling_moves.proofs.redundant_in.Statement.{statement}
 use Rattle.telling_moves.proofs.redundant_in.Tie as tie
 
-abbrev invariant-loop : tie.invariant-loop
+abbrev invariant-loop : tie.invariant-loop-k
 invariant-loop w n last first j r y k₀ k = NotRedundant w n last r first j k
 
-abbrev decreases-loop : tie.decreases-loop
+abbrev decreases-loop : tie.decreases-loop-k
 decreases-loop w n last first j r y k₀ k = j - k
 
-add-y : tie.Need-overflow-add-y invariant-loop decreases-loop
+add-y : tie.Need-overflow_add-y invariant-loop decreases-loop
 add-y c =
-    let m = move_fits c.before.requires.0 c.before.requires.1 in
+    let m = move_fits c.requires.0 c.requires.1 in
     omega (arith, m.span, m.long)
 
-add-y-2 : tie.Need-overflow-add-y-2 invariant-loop decreases-loop
+add-y-2 : tie.Need-overflow_add-y-2 invariant-loop decreases-loop
 add-y-2 c =
-    let m = move_fits c.before.requires.0 c.before.requires.1 in
+    let m = move_fits c.requires.0 c.requires.1 in
     omega (arith, m.span, m.long)
 
-mul-y : tie.Need-overflow-mul-y invariant-loop decreases-loop
+mul-y : tie.Need-offset_bounds-work-first invariant-loop decreases-loop
 mul-y c =
-    let m = move_fits c.before.requires.0 c.before.requires.1 in
+    let m = move_fits c.requires.0 c.requires.1 in
     omega (arith, m.span, m.long)
 
-shared-slice-read-y : tie.Need-shared-slice-read-y invariant-loop decreases-loop
+shared-slice-read-y : tie.Need-bounds-work-first invariant-loop decreases-loop
 shared-slice-read-y c =
-    let m = move_fits c.before.before.requires.0 c.before.before.requires.1 in
+    let m = move_fits c.requires.0 c.requires.1 in
     omega (arith, m.span, m.long)
 
-loop-holds : tie.Need-loop-init invariant-loop decreases-loop
+loop-holds : tie.Need-loop-k-init invariant-loop decreases-loop
 loop-holds c =
-    let g = c.before.before.args in
+    let g = c.args in
     redundant_first g.work.now g.n g.last g.r g.first g.j
 
-add-dominates-in : tie.Need-overflow-add-dominates-in invariant-loop decreases-loop
+add-dominates-in : tie.Need-overflow_add-first invariant-loop decreases-loop
 add-dominates-in c =
-    let p = c.before.before.before.before.requires in
-    let g = c.before.before.before.before.args in
+    let p = c.requires in
+    let g = c.args in
     let m = move_fits p.0 p.1 in
     omega (arith, m.span, m.long)
 
-add-dominates-in-2 : tie.Need-overflow-add-dominates-in-2 invariant-loop decreases-loop
+add-dominates-in-2 : tie.Need-overflow_add-first-in-loop-k invariant-loop decreases-loop
 add-dominates-in-2 c =
-    let p = c.before.before.before.before.requires in
-    let g = c.before.before.before.before.args in
+    let p = c.requires in
+    let g = c.args in
     let m = move_fits p.0 p.1 in
     omega (arith, m.span, m.long)
 
-mul-dominates-in : tie.Need-overflow-mul-dominates-in invariant-loop decreases-loop
+mul-dominates-in : tie.Need-offset_bounds-work-first-in-loop-k invariant-loop decreases-loop
 mul-dominates-in c =
-    let p = c.before.before.before.before.requires in
-    let g = c.before.before.before.before.args in
+    let p = c.requires in
+    let g = c.args in
     let m = move_fits p.0 p.1 in
     omega (arith, m.span, m.long)
 
-shared-slice-read-dominates-in : tie.Need-shared-slice-read-dominates-in invariant-loop decreases-loop
+shared-slice-read-dominates-in : tie.Need-bounds-work-first-in-loop-k invariant-loop decreases-loop
 shared-slice-read-dominates-in c =
-    let p = c.before.before.before.before.before.requires in
-    let g = c.before.before.before.before.before.args in
+    let p = c.requires in
+    let g = c.args in
     let m = move_fits p.0 p.1 in
     omega (arith, m.span, m.long)
 
-dominates-in-requires : tie.Need-dominates-in-requires invariant-loop decreases-loop
+dominates-in-requires : tie.Need-dominates_in-requires invariant-loop decreases-loop
 dominates-in-requires c κs =
-    let p = c.before.before.before.before.before.requires in
-    let g = c.before.before.before.before.before.args in
+    let p = c.requires in
+    let g = c.args in
     let m = move_fits p.0 p.1 in
-    (p.0, two_moves p.1 c.before.before.loop.k (omega arith))
+    (p.0, two_moves p.1 c.loop-k.k (omega arith))
 
-returns : tie.Need-returns invariant-loop decreases-loop
+returns : tie.Need-returns-then-dominates_in invariant-loop decreases-loop
 returns c =
-    let g = c.before.before.before.before.before.before.before.args in
-    let l = c.before.before.before.before.loop in
-    redundant_hit g.work.now g.n g.last g.r g.first g.j l.k c.before.dominates-in.result (omega arith)
-    c.before.dominates-in.ensures c.if1.true
+    let g = c.args in
+    let l = c.loop-k in
+    redundant_hit g.work.now g.n g.last g.r g.first g.j l.k c.dominates_in.result (omega arith)
+    c.dominates_in.ensures c.if-dominates_in.true
 
-add-k : tie.Need-overflow-add-k invariant-loop decreases-loop
+add-k : tie.Need-overflow_add-k invariant-loop decreases-loop
 add-k c = search rules
 
-loop-less : tie.Need-loop-smaller invariant-loop decreases-loop
+loop-less : tie.Need-loop-k-smaller invariant-loop decreases-loop
 loop-less c = search rules
 
-loop-again : tie.Need-loop-preserved invariant-loop decreases-loop
+loop-again : tie.Need-loop-k-preserved invariant-loop decreases-loop
 loop-again c =
-    let g = c.before.before.before.before.before.before.before.args in
-    let l = c.before.before.before.before.loop in
-    redundant_next g.work.now g.n g.last g.r g.first g.j l.k c.before.dominates-in.result (omega arith) l.invariant
-    c.before.dominates-in.ensures c.if1.false
+    let g = c.args in
+    let l = c.loop-k in
+    redundant_next g.work.now g.n g.last g.r g.first g.j l.k c.dominates_in.result (omega arith) l.invariant
+    c.dominates_in.ensures c.if-dominates_in.false
 
-returns-2 : tie.Need-returns-2 invariant-loop decreases-loop
+returns-2 : tie.Need-returns invariant-loop decreases-loop
 returns-2 c =
-    let g = c.before.before.before.before.args in
-    let l = c.before.loop in
+    let g = c.args in
+    let l = c.loop-k in
     redundant_end g.work.now g.n g.last g.r g.first g.j l.k l.invariant (omega arith)
 
-pub redundant-in-spec : {M : Type 1} → statement M
-redundant-in-spec =
+pub redundant_in_spec : {M : Type 1} → statement M
+redundant_in_spec =
     tie.close
     (tie.spec
     invariant-loop

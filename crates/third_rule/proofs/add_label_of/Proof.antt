@@ -10,56 +10,45 @@ use Rattle.third_rule.proofs.add_label_of.Statement.{statement}
 use Rattle.third_rule.proofs.add_label_of.Tie as tie
 
 -- ---- the stages of the function, each from a later one
-abbrev start-of-label-at : tie.After-label-at → tie.Start
-start-of-label-at s = s.before.before.before.before.before.before
-
-abbrev label-at-of-add-to-all : tie.After-add-to-all → tie.After-label-at
-label-at-of-add-to-all s = s.before.before
-
 -- ---- what is left to show
-first-with-label-requires : tie.Need-first-with-label-requires
+first-with-label-requires : tie.Need-first_with_label-requires
 first-with-label-requires c κs = search rules
 
-label-at-requires : tie.Need-label-at-requires
+label-at-requires : tie.Need-label_at-label-requires
 label-at-requires c κs = search rules
 
-add-to-all-requires : tie.Need-add-to-all-requires
+add-to-all-requires : tie.Need-add_to_all-requires
 add-to-all-requires c κs =
-    let b = c.before.before.before.before.before.before.before in
-    let g = b.args in (
-      b.requires.0,
-      b.requires.1,
-      omega (arith, b.requires.2),
-      subst (NewLabel g.work.now g.b g.s g.j) (sym c.before.label_at.ensures)
-          (first_new b.requires.0 g.j b.requires.1 b.requires.2
-          (sym c.before.before.before.before.first-with-label.ensures ∙ c.before.before.before.if1.true)),
+    let g = c.args in (
+      c.requires.0,
+      c.requires.1,
+      omega (arith, c.requires.2),
+      subst (NewLabel g.work.now g.b g.s g.j) (sym c.label_at-label.ensures)
+          (first_new c.requires.0 g.j c.requires.1 c.requires.2
+          (sym c.first_with_label.ensures ∙ c.if-first_with_label.true)),
     )
 
-same_length : tie.Need-same-length
+same_length : tie.Need-shape_of-work-then-first_with_label
 same_length c = search rules
 
-returns : tie.Need-returns
+returns : tie.Need-returns-then-first_with_label
 returns c =
-    let at-add-to-all = c.before.before in
-    let at-label-at = label-at-of-add-to-all at-add-to-all in
-    let b = start-of-label-at at-label-at in
-    let g = b.args in
-    let m = at-add-to-all.add-to-all in
-    by_first g.b g.work.now g.s b.pre.0 g.j b.pre.1 m.new.0 m.result
-    (subst (λ (x : ℕ). Added (BeforePlace g.work.now g.b.first g.j x) g.b g.work.now g.s m.new.0 m.result)
-    at-label-at.label_at.ensures m.ensures)
+    let g = c.args in
+    let m = c.add_to_all in
+    by_first g.b g.work.now g.s c.requires.0 g.j c.requires.1 m.new.work m.result
+    (subst (λ (x : ℕ). Added (BeforePlace g.work.now g.b.first g.j x) g.b g.work.now g.s m.new.work m.result)
+    c.label_at-label.ensures m.ensures)
 
-same-length-2 : tie.Need-same-length-2
+same-length-2 : tie.Need-shape_of-work
 same-length-2 c = search rules
 
-returns-2 : tie.Need-returns-2
+returns-2 : tie.Need-returns
 returns-2 c =
-    let b = c.before.before.before.before in
-    let g = b.args in
-    not_by_first g.b g.work.now g.s b.requires.0 g.j (sym c.before.first-with-label.ensures ∙ c.if1.false)
+    let g = c.args in
+    not_by_first g.b g.work.now g.s c.requires.0 g.j (sym c.first_with_label.ensures ∙ c.if-first_with_label.false)
 
-pub add-label-of-spec : {M : Type 1} → statement M
-add-label-of-spec =
+pub add_label_of_spec : {M : Type 1} → statement M
+add_label_of_spec =
     tie.close
     (tie.spec
     first-with-label-requires

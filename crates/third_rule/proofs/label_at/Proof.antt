@@ -6,21 +6,21 @@ use Rattle.work_layout.specs.WorkLayout.{moves_at}
 use Rattle.third_rule.proofs.label_at.Statement.{statement}
 use Rattle.third_rule.proofs.label_at.Tie as tie
 
-add-result : tie.Need-overflow-add-result
+add-result : tie.Need-overflow_add-result
 add-result c = search rules
 
-mul-result : tie.Need-overflow-mul-result
+mul-result : tie.Need-offset_bounds-work-i
 mul-result c = search rules
 
-shared-slice-read-result : tie.Need-shared-slice-read-result
+shared-slice-read-result : tie.Need-bounds-work-i
 shared-slice-read-result c = search rules
 
-cast-result : tie.Need-overflow-cast-result
-cast-result c = omega (arith, c.shared-slice-known.given (moves_at + c.before.args.i))
+cast-result : tie.Need-overflow_cast-result
+cast-result c = omega (arith, c.shared_slice_known-1.given (moves_at + c.args.i))
 
 returns : tie.Need-returns
 returns c = search rules
 
-pub label-at-spec : {M : Type 1} → statement M
-label-at-spec =
+pub label_at_spec : {M : Type 1} → statement M
+label_at_spec =
     tie.close (tie.spec add-result mul-result shared-slice-read-result cast-result returns)

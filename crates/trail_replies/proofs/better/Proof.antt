@@ -6,48 +6,48 @@ use Rattle.trail_replies.specs.ReplyTests.{better_other, better_only, better_lat
 use Rattle.trail_replies.proofs.better.Statement.{statement}
 use Rattle.trail_replies.proofs.better.Tie as tie
 
-returns : tie.Need-returns
+returns : tie.Need-returns-then-x-y
 returns c =
-    let g = c.before.before.args in
-    better_other g.work.now g.last g.y g.best g.x c.if1.true
+    let g = c.args in
+    better_other g.work.now g.last g.y g.best g.x c.if-x-y.true
 
-returns-2 : tie.Need-returns-2
+returns-2 : tie.Need-returns-then-best-eq-NONE
 returns-2 c =
-    let g = c.before.before.before.args in
-    better_only g.work.now g.last g.y g.best g.x c.before.if1.false c.if2.true
+    let g = c.args in
+    better_only g.work.now g.last g.y g.best g.x c.if-x-y.false c.if-best-eq-NONE.true
 
-cast_t : tie.Need-overflow-cast-t
+cast_t : tie.Need-overflow_cast-t
 cast_t c = search rules
 
-apart-at-requires : tie.Need-apart-at-requires
-apart-at-requires c κs = pair_apart_fits (c.before.before.before.requires.1 c.if2.false)
+apart-at-requires : tie.Need-apart_at-requires
+apart-at-requires c κs = pair_apart_fits (c.requires.1 c.if-best-eq-NONE.false)
 
-cast-apart-at : tie.Need-overflow-cast-apart-at
+cast-apart-at : tie.Need-overflow_cast-u
 cast-apart-at c = search rules
 
-apart-at-requires-2 : tie.Need-apart-at-requires-2
-apart-at-requires-2 c κs = pair_apart_fits c.before.before.before.before.requires.0
+apart-at-requires-2 : tie.Need-apart_at-requires-2
+apart-at-requires-2 c κs = pair_apart_fits c.requires.0
 
-returns-3 : tie.Need-returns-3
+returns-3 : tie.Need-returns-then-apart_at
 returns-3 c =
-    let g = c.before.before.before.before.before.before.args in
-    better_later g.work.now g.last g.y g.best g.x c.before.before.before.before.if1.false
-    c.before.before.before.if2.false
-    c.before.before.apart_at_lem.result c.before.apart-at2.result c.before.before.apart_at_lem.ensures
-    c.before.apart-at2.ensures
-    c.if3.true
+    let g = c.args in
+    better_later g.work.now g.last g.y g.best g.x c.if-x-y.false
+    c.if-best-eq-NONE.false
+    c.apart_at.result c.apart_at-2.result c.apart_at.ensures
+    c.apart_at-2.ensures
+    c.if-apart_at.true
 
-returns-4 : tie.Need-returns-4
+returns-4 : tie.Need-returns
 returns-4 c =
-    let g = c.before.before.before.before.before.before.args in
-    better_kept g.work.now g.last g.y g.best g.x c.before.before.before.before.if1.false
-    c.before.before.before.if2.false
-    c.before.before.apart_at_lem.result c.before.apart-at2.result c.before.before.apart_at_lem.ensures
-    c.before.apart-at2.ensures
-    c.if3.false
+    let g = c.args in
+    better_kept g.work.now g.last g.y g.best g.x c.if-x-y.false
+    c.if-best-eq-NONE.false
+    c.apart_at.result c.apart_at-2.result c.apart_at.ensures
+    c.apart_at-2.ensures
+    c.if-apart_at.false
 
-pub better-spec : {M : Type 1} → statement M
-better-spec =
+pub better_spec : {M : Type 1} → statement M
+better_spec =
     tie.close
     (tie.spec
     returns

@@ -7,113 +7,113 @@ use Rattle.trail_replies.specs.ReplyTests.{BestSoFar, best_first, best_next, bes
 use Rattle.trail_replies.proofs.reply_to.Statement.{statement}
 use Rattle.trail_replies.proofs.reply_to.Tie as tie
 
-abbrev invariant-loop : tie.invariant-loop
+abbrev invariant-loop : tie.invariant-loop-k
 invariant-loop w last y q first total best₀ k₀ best k = BestSoFar w last y q best k
 
-abbrev decreases-loop : tie.decreases-loop
+abbrev decreases-loop : tie.decreases-loop-k
 decreases-loop w last y q first total best₀ k₀ best k = total - k
 
-first-move-requires : tie.Need-first-move-requires invariant-loop decreases-loop
+first-move-requires : tie.Need-first_move-first-requires invariant-loop decreases-loop
 first-move-requires c κs =
-    let f = place_fits c.before.requires.follows c.before.args.q c.before.requires.right in
+    let f = place_fits c.requires.follows c.args.q c.requires.right in
     (omega (arith, f.few), f.long)
 
-move-total-requires : tie.Need-move-total-requires invariant-loop decreases-loop
+move-total-requires : tie.Need-move_total-total-requires invariant-loop decreases-loop
 move-total-requires c κs =
-    let p = c.before.before.requires in
-    let f = place_fits p.follows c.before.before.args.q p.right in
+    let p = c.requires in
+    let f = place_fits p.follows c.args.q p.right in
     (omega (arith, f.few), f.long)
 
-loop-holds : tie.Need-loop-init invariant-loop decreases-loop
+loop-holds : tie.Need-loop-k-init invariant-loop decreases-loop
 loop-holds c =
-    let g = c.before.before.before.args in
+    let g = c.args in
     best_first g.work.now g.last g.y g.q
 
-add-better : tie.Need-overflow-add-better invariant-loop decreases-loop
+add-better : tie.Need-overflow_add-first invariant-loop decreases-loop
 add-better c =
-    let p = c.before.before.before.before.before.requires in
-    let g = c.before.before.before.before.before.args in
-    let f = c.before.before.before.first-move in
-    let t = c.before.before.move-total in
-    let l = c.before.loop in
+    let p = c.requires in
+    let g = c.args in
+    let f = c.first_move-first in
+    let t = c.move_total-total in
+    let l = c.loop-k in
     let o = move_of_lem g.work.now p.n g.q f.result l.k t.result p.right f.ensures t.ensures (omega arith) in
     let m = move_fits p.follows o in
     omega (arith, m.span, m.long)
 
-add-better-2 : tie.Need-overflow-add-better-2 invariant-loop decreases-loop
+add-better-2 : tie.Need-overflow_add-first-in-loop-k invariant-loop decreases-loop
 add-better-2 c =
-    let p = c.before.before.before.before.before.requires in
-    let g = c.before.before.before.before.before.args in
-    let f = c.before.before.before.first-move in
-    let t = c.before.before.move-total in
-    let l = c.before.loop in
+    let p = c.requires in
+    let g = c.args in
+    let f = c.first_move-first in
+    let t = c.move_total-total in
+    let l = c.loop-k in
     let o = move_of_lem g.work.now p.n g.q f.result l.k t.result p.right f.ensures t.ensures (omega arith) in
     let m = move_fits p.follows o in
     omega (arith, m.span, m.long)
 
-mul-better : tie.Need-overflow-mul-better invariant-loop decreases-loop
+mul-better : tie.Need-offset_bounds-work-first invariant-loop decreases-loop
 mul-better c =
-    let p = c.before.before.before.before.before.requires in
-    let g = c.before.before.before.before.before.args in
-    let f = c.before.before.before.first-move in
-    let t = c.before.before.move-total in
-    let l = c.before.loop in
+    let p = c.requires in
+    let g = c.args in
+    let f = c.first_move-first in
+    let t = c.move_total-total in
+    let l = c.loop-k in
     let o = move_of_lem g.work.now p.n g.q f.result l.k t.result p.right f.ensures t.ensures (omega arith) in
     let m = move_fits p.follows o in
     omega (arith, m.span, m.long)
 
-shared-slice-read-better : tie.Need-shared-slice-read-better invariant-loop decreases-loop
+shared-slice-read-better : tie.Need-bounds-work-first invariant-loop decreases-loop
 shared-slice-read-better c =
-    let p = c.before.before.before.before.before.before.requires in
-    let g = c.before.before.before.before.before.before.args in
-    let f = c.before.before.before.before.first-move in
-    let t = c.before.before.before.move-total in
-    let l = c.before.before.loop in
+    let p = c.requires in
+    let g = c.args in
+    let f = c.first_move-first in
+    let t = c.move_total-total in
+    let l = c.loop-k in
     let o = move_of_lem g.work.now p.n g.q f.result l.k t.result p.right f.ensures t.ensures (omega arith) in
     let m = move_fits p.follows o in
     omega (arith, m.span, m.long)
 
-better-requires : tie.Need-better-requires invariant-loop decreases-loop
+better-requires : tie.Need-better-best-requires invariant-loop decreases-loop
 better-requires c κs =
-    let p = c.before.before.before.before.before.before.requires in
-    let g = c.before.before.before.before.before.before.args in
-    let f = c.before.before.before.before.first-move in
-    let t = c.before.before.before.move-total in
-    let l = c.before.before.loop in
+    let p = c.requires in
+    let g = c.args in
+    let f = c.first_move-first in
+    let t = c.move_total-total in
+    let l = c.loop-k in
     let o = move_of_lem g.work.now p.n g.q f.result l.k t.result p.right f.ensures t.ensures (omega arith) in
     let m = move_fits p.follows o in
     (record { n = p.n; follows = p.follows; left = p.left; right = m.target }, l.invariant.fits)
 
-add-k : tie.Need-overflow-add-k invariant-loop decreases-loop
+add-k : tie.Need-overflow_add-k invariant-loop decreases-loop
 add-k c =
-    let t = c.before.before.before.before.move-total in
+    let t = c.move_total-total in
     omega arith
 
-loop-less : tie.Need-loop-smaller invariant-loop decreases-loop
+loop-less : tie.Need-loop-k-smaller invariant-loop decreases-loop
 loop-less c = search rules
 
-loop-again : tie.Need-loop-preserved invariant-loop decreases-loop
+loop-again : tie.Need-loop-k-preserved invariant-loop decreases-loop
 loop-again c =
-    let p = c.before.before.before.before.before.before.before.requires in
-    let g = c.before.before.before.before.before.before.before.args in
-    let f = c.before.before.before.before.before.first-move in
-    let t = c.before.before.before.before.move-total in
-    let l = c.before.before.before.loop in
+    let p = c.requires in
+    let g = c.args in
+    let f = c.first_move-first in
+    let t = c.move_total-total in
+    let l = c.loop-k in
     let o = move_of_lem g.work.now p.n g.q f.result l.k t.result p.right f.ensures t.ensures (omega arith) in
     let m = move_fits p.follows o in
-    best_next g.work.now g.last g.y g.q f.result t.result f.ensures t.ensures l.best l.k c.better.result
-    (omega arith) l.invariant (record { n = p.n; follows = p.follows; left = p.left; right = m.target }) c.better.ensures
+    best_next g.work.now g.last g.y g.q f.result t.result f.ensures t.ensures l.best l.k c.better-best.result
+    (omega arith) l.invariant (record { n = p.n; follows = p.follows; left = p.left; right = m.target }) c.better-best.ensures
 
 returns : tie.Need-returns invariant-loop decreases-loop
 returns c =
-    let g = c.before.before.before.before.before.args in
-    let f = c.before.before.before.first-move in
-    let t = c.before.before.move-total in
-    let l = c.before.loop in
+    let g = c.args in
+    let f = c.first_move-first in
+    let t = c.move_total-total in
+    let l = c.loop-k in
     best_end g.work.now g.last g.y g.q f.result t.result f.ensures t.ensures l.best l.k l.invariant (omega arith)
 
-pub reply-to-spec : {M : Type 1} → statement M
-reply-to-spec =
+pub reply_to_spec : {M : Type 1} → statement M
+reply_to_spec =
     tie.close
     (tie.spec
     invariant-loop

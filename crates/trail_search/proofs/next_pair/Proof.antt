@@ -6,14 +6,14 @@ use borrow.Author.Tests.{eq-eqb, ne_eqb}
 use Rattle.trail_search.proofs.next_pair.Statement.{statement}
 use Rattle.trail_search.proofs.next_pair.Tie as tie
 
-cast_t : tie.Need-overflow-cast-t
+cast_t : tie.Need-overflow_cast-t
 cast_t c = search rules
 
-returns : tie.Need-returns
-returns c = simp (eq-eqb _ _ c.if1.true) (refl, refl)
+returns : tie.Need-returns-then-taken-eq0
+returns c = simp (eq-eqb _ _ c.if-taken-eq0.true) (refl, refl)
 
-returns-2 : tie.Need-returns-2
-returns-2 c = simp (ne_eqb _ _ c.if1.false) (refl, refl)
+returns-2 : tie.Need-returns
+returns-2 c = simp (ne_eqb _ _ c.if-taken-eq0.false) (refl, refl)
 
-pub next-pair-spec : {M : Type 1} → statement M
-next-pair-spec = tie.close (tie.spec cast_t returns returns-2)
+pub next_pair_spec : {M : Type 1} → statement M
+next_pair_spec = tie.close (tie.spec cast_t returns returns-2)
