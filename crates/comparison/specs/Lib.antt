@@ -7,7 +7,7 @@ pub use Rattle.moves.specs.Refusals
 pub use Rattle.moves.specs.Sheet
 pub use Rattle.sheet_reading.specs.SheetBytes
 pub use Rattle.sheet_reading.specs.SheetLimits
-pub use Rattle.sheet_reading.specs.SheetRead
+pub use Rattle.sheet_reading.proofs.SheetRead
 pub use Rattle.sheet_reading.specs.Sound
 pub use Rattle.moves.specs.Stores
 pub use Rattle.moves.specs.WellFormed
@@ -24,6 +24,5 @@ pub mod Print
 pub mod SheetTransitions
 pub mod TransitionSentences
 pub mod Promise
-pub mod TrailSentences
 pub mod KnownSheets
 pub mod KnownCases

@@ -12,7 +12,7 @@ use Rattle.comparison.specs.SheetTransitions.{transitions}
 use Rattle.comparison.specs.Trail as trail
 use Rattle.comparison.specs.Trail.{TrailStep}
 use Rattle.comparison.specs.Promise.{Tells, Telling, Replied, Walkable, unequal_stores, left_alone, left_replied, right_alone, right_replied}
-use Rattle.comparison.specs.TrailSentences.{none_before, one_round, none_earlier}
+use Rattle.comparison.proofs.TrailSentences.{none_before, one_round, none_earlier}
 
 module _ (sheet : Sheet) where
   -- two configurations are first separated in one round, or level

@@ -12,7 +12,7 @@ use Rattle.kept_classes.specs.OrderLaws.{configuration_order}
 use Rattle.packing.specs.declared.Numbers.{Numbers}
 use Rattle.packing.specs.Packing.{stands_for, PackedIn, Fits, number0, number1, number2}
 use Rattle.packing.specs.Comparing.{compared}
-use Rattle.packing.specs.PackingLaws.{compared_before}
+use Rattle.packing.proofs.PackingLaws.{compared_before}
 use Rattle.work_layout.specs.SetLayout.{member_at, set_in, SetHeld, numbers_at}
 use Rattle.work_layout.specs.WorkLayout.{members_at}
 

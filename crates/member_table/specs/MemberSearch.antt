@@ -9,7 +9,7 @@ use Rattle.move_laws.specs.OrderLaws.{configuration_order}
 use Rattle.packing.specs.declared.Numbers.{Numbers}
 use Rattle.packing.specs.Packing.{side_of, stands_for, PackedIn}
 use Rattle.packing.specs.Comparing.{compared}
-use Rattle.packing.specs.PackingLaws.{side_before, side_same, side_after, numbers_side}
+use Rattle.packing.proofs.PackingLaws.{side_before, side_same, side_after, numbers_side}
 use Rattle.member_table.specs.MemberTable.{numbers_in, id_in, placed_in, Kept}
 use Rattle.packing.specs.TabulateLaws.{ascends_at}
 

@@ -6,7 +6,8 @@ use Rattle.std.proofs.Math.Seq.{get_or-append_seam}
 use Rattle.sheet_types.specs.TestLaws.{Tested, passes, fails, tested}
 use Rattle.sheet_types.specs.Sheet.{Node, stop, tell, ask, both, either, node_of}
 use Rattle.node_opening.specs.Ranks.{Part, Ranked, rank_of, parts_map}
-use Rattle.node_opening.specs.OpeningLaws.{LowerNames, ranked_next}
+use Rattle.node_opening.specs.Ranks.{LowerNames}
+use Rattle.node_opening.specs.OpeningLaws.{ranked_next}
 use Rattle.sheet_types.specs.HeldSheet.{node_held}
 use Rattle.node_moves.specs.NodeMoves.{movable_of, movable}
 use Rattle.node_moves.specs.NodeMoveLaws.{movable_same, movable_is}

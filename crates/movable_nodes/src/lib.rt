@@ -4,7 +4,7 @@
 ghost use Rattle.std.specs.Prelude.{◌≡◌, ◌<◌};
 ghost use Rattle.sheet_types.specs.SheetLimits.{max_nodes};
 ghost use Rattle.sheet_types.specs.Sheet.{either};
-ghost use Rattle.node_opening.specs.OpeningLaws.{LowerNames};
+ghost use Rattle.node_opening.specs.Ranks.{LowerNames};
 ghost use Rattle.sheet_types.specs.HeldSheet.{node_held};
 ghost use Rattle.sheet_types.specs.NodeTable.{movables_of};
 ghost use Rattle.movable_nodes.specs.Movability.{mark_for};

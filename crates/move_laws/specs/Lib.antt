@@ -10,11 +10,11 @@ pub use Rattle.sheet_laws.specs.ListPlaces
 pub use Rattle.moves.specs.Lists
 pub use Rattle.sheet_laws.specs.Members
 pub use Rattle.moves.specs.Moves
-pub use Rattle.sheet_laws.specs.OpeningLaws
+pub use Rattle.sheet_laws.proofs.OpeningLaws
 pub use Rattle.moves.specs.Orders
 pub use Rattle.sheet_laws.specs.OutsideLaws
 pub use Rattle.sheet_laws.specs.Ranks
-pub use Rattle.sheet_laws.specs.ReadingLaws
+pub use Rattle.sheet_laws.proofs.ReadingLaws
 pub use Rattle.moves.specs.Sheet
 pub use Rattle.sheet_laws.specs.SheetLimits
 pub use Rattle.sheet_laws.specs.SortingLaws

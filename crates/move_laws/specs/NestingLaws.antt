@@ -6,7 +6,7 @@ use Rattle.std.proofs.Common.{◌∙◌, arith}
 use Prim.Native.Nat.{ℕ, zero, suc, ◌<◌}
 use Rattle.moves.specs.Sheet.{Node, stop, tell, ask, both, either, Sheet, node_of, opening_of, open_within, opened}
 use Rattle.sheet_laws.specs.Ranks.{OfParts, Part, Ranked, parts_map}
-use Rattle.sheet_laws.specs.OpeningLaws.{opening_enough}
+use Rattle.sheet_laws.proofs.OpeningLaws.{opening_enough}
 use Rattle.moves.specs.Moves.{Step, steps_of, steps_within, steps}
 
 opening_step : (ns : List Node) (n k : ℕ) → open_within (suc n) ns k ≡ opening_of (open_within n ns) k (node_of ns k)

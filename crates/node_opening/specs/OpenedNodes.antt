@@ -6,7 +6,8 @@ use Rattle.std.proofs.Math.Seq.{length-sets}
 use Rattle.sheet_laws.specs.SheetLimits.{max_nodes, max_threads}
 use Rattle.sheet_laws.specs.Sheet.{Node, tell, ask, both, either, opening_of, opened}
 use Rattle.sheet_laws.specs.Ranks.{Ranked, rank_of, parts_map}
-use Rattle.sheet_laws.specs.OpeningLaws.{LowerNames, ranked_none, ranked_next, opening_same, opening_prefix, opening_next}
+use Rattle.sheet_laws.specs.Ranks.{LowerNames}
+use Rattle.sheet_laws.proofs.OpeningLaws.{ranked_none, ranked_next, opening_same, opening_prefix, opening_next}
 use Rattle.sheet_types.specs.HeldSheet.{node_held, opened_in, OpenedHeld}
 use Rattle.sheet_types.specs.NodeTable.{Opened, column, nodes_of, opened_of, movables_of, counts_at, movables_at, threads_at, table_end}
 use Rattle.sheet_types.specs.NodeTableLaws.{column_other, column_set, drop_sets, nodes_same, threads_from_lem}

@@ -6,7 +6,7 @@ use Rattle.set_closure.specs.Stores.{Rule}
 use Rattle.set_closure.specs.SheetLimits.{max_threads, max_nodes}
 use Rattle.sheet_types.specs.Sheet.{Node, opened}
 use Rattle.sheet_types.specs.Reading.{got, refused, and_then, refused_if, node_at}
-use Rattle.node_opening.specs.OpeningLaws.{LowerNames}
+use Rattle.node_opening.specs.Ranks.{LowerNames}
 use Rattle.sheet_fields.specs.NodeFields.{node_fields_at, opens_to_many, node_checked}
 use Rattle.sheet_fields.specs.SectionLaws.{node_fields_lower}
 use Rattle.sheet_types.specs.HeldSheet.{node_held, node_in, nodes_in, answer_with}

@@ -8,7 +8,7 @@ use Rattle.set_closure.specs.SheetLimits.{max_nodes, max_threads}
 use Rattle.sheet_types.specs.Reading.{got, second_at}
 use Rattle.sheet_types.specs.Sheet.{Node}
 use Rattle.node_opening.specs.Ranks.{parts_map}
-use Rattle.node_opening.specs.OpeningLaws.{LowerNames}
+use Rattle.node_opening.specs.Ranks.{LowerNames}
 use Rattle.sheet_fields.specs.FieldLaws.{second_unused, second_any, second_below, unused_gets, below_gets}
 use Rattle.sheet_types.specs.HeldSheet.{node_held}
 use Rattle.sheet_types.specs.NodeTable.{

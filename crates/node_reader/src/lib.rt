@@ -4,7 +4,7 @@
 ghost use Rattle.std.specs.Prelude.{◌≡◌, [], ◌≤◌, ◌<◌, length};
 ghost use Rattle.set_closure.specs.SheetLimits.{max_facts, max_rules, min_nodes, max_nodes};
 ghost use Rattle.sheet_types.specs.Reading.{node_at, nodes_at, records_from};
-ghost use Rattle.node_opening.specs.OpeningLaws.{LowerNames};
+ghost use Rattle.node_opening.specs.Ranks.{LowerNames};
 ghost use Rattle.set_closure.specs.RuleTable.{rules_in};
 ghost use Rattle.sheet_types.specs.HeldSheet.{node_held};
 ghost use Rattle.sheet_types.specs.NodeTable.{table_end};

@@ -19,6 +19,4 @@ pub use Rattle.list_laws.specs.TestLaws
 pub use Rattle.moves.specs.WellFormed
 pub mod Packing
 pub mod Comparing
-pub mod PackingLaws
 pub mod Bytes
-pub mod FromArray

@@ -1,4 +1,4 @@
-pub use Rattle.packing.specs.PackingLaws
+pub use Rattle.packing.proofs.PackingLaws
 pub use Rattle.text.specs.Slices
 pub use Rattle.text.specs.StoredText
 pub mod RecordLayout

@@ -4,7 +4,7 @@ use Rattle.std.proofs.Common.{sym, ap, ◌∙◌, subst, add-one, arith, length-
 use Rattle.text.specs.Slices.{Stored}
 use Rattle.text.specs.StoredText.{stored_then, stored_byte, stored_more}
 use Rattle.packing.specs.Packing.{eight_bytes}
-use Rattle.packing.specs.PackingLaws.{packed_count}
+use Rattle.packing.proofs.PackingLaws.{packed_count}
 use Rattle.packing.specs.SheetBytes.{word_bytes}
 use Rattle.report_records.specs.RecordLayout.{PackedAt, side_in, label_in, target_in, reply_in, member_bytes_at, step_bytes_at}
 use Rattle.work_layout.specs.WorkLayout.{members_at}

@@ -1,9 +1,9 @@
 pub use Rattle.sheet_laws.specs.FieldLaws
 pub use Rattle.sheet_laws.specs.NodeFields
-pub use Rattle.sheet_laws.specs.ReadingLaws
+pub use Rattle.sheet_laws.proofs.ReadingLaws
 pub use Rattle.sheet_laws.specs.RecordLaws
 pub use Rattle.sheet_laws.specs.RefusalNumbers
-pub use Rattle.sheet_laws.specs.SectionLaws
+pub use Rattle.sheet_laws.proofs.SectionLaws
 pub use Rattle.sheet_laws.specs.StoredRecords
 pub use Rattle.sheet_laws.specs.Stores
 pub mod AbsentFacts

@@ -13,7 +13,7 @@ pub use Rattle.sheet_reading.specs.Reading
 pub use Rattle.sheet_reading.specs.Sheet
 pub use Rattle.sheet_reading.specs.SheetBytes
 pub use Rattle.sheet_reading.specs.SheetLimits
-pub use Rattle.sheet_reading.specs.SheetRead
+pub use Rattle.sheet_reading.proofs.SheetRead
 pub use Rattle.store_laws.specs.SortingLaws
 pub use Rattle.store_laws.specs.StoreLaws
 pub use Rattle.store_laws.specs.Stores
@@ -24,9 +24,6 @@ pub mod Ranks
 pub mod NodeFields
 pub mod RecordLaws
 pub mod StoredRecords
-pub mod OpeningLaws
 pub mod Gets
 pub mod FieldLaws
-pub mod SectionLaws
-pub mod ReadingLaws
 pub mod RefusalNumbers

@@ -11,6 +11,10 @@ OfParts P (ask c q) = Unit {0}
 OfParts P (both p q) = P p × P q
 OfParts P (either p q) = P p × P q
 
+-- a both and an either name nodes below k
+abbrev pub LowerNames : ℕ → Node → Type 0
+LowerNames k n = OfParts (λ p. p < k) n
+
 -- p may be a part of node k of n: it is one of the nodes, and its rank is lower
 pub record Part (rank : ℕ → ℕ) (n k p : ℕ) : Type 0 where
   pub inside : p < n

@@ -5,7 +5,3 @@ pub use Rattle.sheets.specs.SheetLimits
 pub use Rattle.sheets.specs.WellFormed
 pub mod Reading
 pub mod Sound
-pub mod FieldsRead
-pub mod RecordsRead
-pub mod NamesRead
-pub mod SheetRead

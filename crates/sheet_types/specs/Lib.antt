@@ -10,7 +10,7 @@ pub use Rattle.closure_table.specs.RuleTableLaws
 pub use Rattle.sheet_reading.specs.Sheet
 pub use Rattle.sheet_reading.specs.SheetBytes
 pub use Rattle.sheet_reading.specs.SheetLimits
-pub use Rattle.sheet_reading.specs.SheetRead
+pub use Rattle.sheet_reading.proofs.SheetRead
 pub use Rattle.packing.specs.SortingLaws
 pub use Rattle.sheet_reading.specs.Sound
 pub use Rattle.closure_table.specs.StoreLaws

@@ -1,16 +1,3 @@
 pub mod StandingFacts
-pub mod RaisedSets
-pub mod RaisedLabels
-pub mod RaisedLists
-pub mod RaisedSheets
-pub mod RaisedSet
-pub mod RaisedRounds
-pub mod RaisedReport
-pub mod RaisedMoves
-pub mod WithoutStanding
-pub mod RaisedCalls
-pub mod StandingCalls
-pub mod StandingTheorem
 pub mod EarlierSheets
 pub mod EarlierSentences
-pub mod EarlierReading

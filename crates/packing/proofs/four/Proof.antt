@@ -1,6 +1,6 @@
 -- `four` adds up four threads, each 256 times what the next one is.
 use lib.ListN.{take}
-use Rattle.packing.specs.FromArray.{four_sum}
+use Rattle.packing.proofs.FromArray.{four_sum}
 use borrow.Author.Rules.{rules}
 use Rattle.packing.proofs.four.Statement.{statement}
 use Rattle.packing.proofs.four.Tie as tie

@@ -1,5 +1,5 @@
 -- `numbers_of` works out the three numbers from the left.
-use Rattle.packing.specs.FromArray.{array_numbers}
+use Rattle.packing.proofs.FromArray.{array_numbers}
 use native.Mathlib.Omega.{arith}
 use borrow.Author.Rules.{rules}
 use Rattle.packing.proofs.numbers_of.Statement.{statement}

@@ -3,7 +3,7 @@ use mathlib.Core.Path.{◌∙◌}
 use native.Mathlib.Omega.{arith}
 use lib.ListN.{length-set}
 use borrow.Author.Rules.{rules}
-use Rattle.packing.specs.PackingLaws.{packed_count}
+use Rattle.packing.proofs.PackingLaws.{packed_count}
 use Rattle.text.specs.StoredText.{stored_length}
 use Rattle.report_records.specs.RecordsStored.{threads_count, member_length_lem, stored_member}
 use Rattle.report_records.proofs.put_member.Statement.{statement}

@@ -1,5 +1,5 @@
 -- `configuration_of` takes the three numbers apart again.
-use Rattle.packing.specs.PackingLaws.{packed_count}
+use Rattle.packing.proofs.PackingLaws.{packed_count}
 use borrow.Author.Rules.{rules}
 use Rattle.sheet_types.proofs.configuration_of.Statement.{statement}
 use Rattle.sheet_types.proofs.configuration_of.Tie as tie

@@ -1,0 +1,4 @@
+pub mod StandingBytes
+pub mod EncodedRecords
+pub mod EncoderLaws
+pub mod EncodedBytes

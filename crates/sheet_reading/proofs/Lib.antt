@@ -1,0 +1,4 @@
+pub mod FieldsRead
+pub mod RecordsRead
+pub mod NamesRead
+pub mod SheetRead

@@ -1,0 +1,13 @@
+pub mod WithoutStanding
+pub mod RaisedReport
+pub mod RaisedMoves
+pub mod RaisedSets
+pub mod RaisedLabels
+pub mod EarlierReading
+pub mod RaisedRounds
+pub mod StandingCalls
+pub mod RaisedSheets
+pub mod RaisedSet
+pub mod RaisedLists
+pub mod RaisedCalls
+pub mod StandingTheorem
