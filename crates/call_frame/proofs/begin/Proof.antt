@@ -10,58 +10,42 @@ use Rattle.call_frame.proofs.begin.Statement.{statement}
 use Rattle.call_frame.proofs.begin.Tie as tie
 
 -- ---- the stages of the function, each from a later one
-abbrev start-of-read-choice : tie.After-read-choice → tie.Start
-start-of-read-choice s = s.before.before.before
-
-abbrev read-choice-of-enum-told : tie.After-enum-told → tie.After-read-choice
-read-choice-of-enum-told s = s.before.before.before
-
-abbrev enum-told-of-begin-seeds : tie.After-begin-seeds → tie.After-enum-told
-enum-told-of-begin-seeds s = s.before.before
-
 -- ---- what is left to show
-read-choice-requires : tie.Need-read-choice-requires
+read-choice-requires : tie.Need-read_choice-read-requires
 read-choice-requires c κs = search rules
 
-enum-known-section : tie.Need-enum-known-section
+enum-known-section : tie.Need-enum_known-section
 enum-known-section c = search rules
 
-enum_told : tie.Need-enum-told
+enum_told : tie.Need-enum_told-1
 enum_told c = search rules
 
-begin-seeds-requires : tie.Need-begin-seeds-requires
+begin-seeds-requires : tie.Need-begin_seeds-requires
 begin-seeds-requires c κs =
-    let at-enum-told = c.before in
-    let at-read-choice = read-choice-of-enum-told at-enum-told in
-    let start = start-of-read-choice at-read-choice in
-    let args = start.args in
-    let read = at-read-choice.read-choice in
-    (start.pre, choice_held args.sheet.now args.left args.right read.result read.ensures at-enum-told.enum_told.given.1)
+    let args = c.args in
+    let read = c.read_choice-read in
+    (c.requires, choice_held args.sheet.now args.left args.right read.result read.ensures c.in-Got.is)
 
-returns : tie.Need-returns
+returns : tie.Need-returns-in-Refused
 returns c =
-    let at-read-choice = c.before.before.before.before.before in
-    let args = (start-of-read-choice at-read-choice).args in
-    let read = at-read-choice.read-choice in
+    let args = c.args in
+    let read = c.read_choice-read in
     read_refused (limits_of args.caps) args.sheet.now args.left args.right args.all args.work.now read.result.sheet.starts 0
-    (with_refused (λ _. sheet_of read.result.sheet) read.ensures.reading c.before.before.section.given.1)
+    (with_refused (λ _. sheet_of read.result.sheet) read.ensures.reading c.in-Refused.is)
 
-same_length : tie.Need-same-length
+same_length : tie.Need-shape_of-work
 same_length c = search rules
 
-returns-2 : tie.Need-returns-2
+returns-2 : tie.Need-returns-in-Got
 returns-2 c =
-    let at-begin-seeds = c.before.before in
-    let at-enum-told = enum-told-of-begin-seeds at-begin-seeds in
-    let at-read-choice = read-choice-of-enum-told at-enum-told in
-    let args = (start-of-read-choice at-read-choice).args in
-    let read = at-read-choice.read-choice in
+    let args = c.args in
+    let read = c.read_choice-read in
     read_begun (limits_of args.caps) args.sheet.now args.left args.right args.all args.work.now
-    (read_is (read_choice args.sheet.now args.left args.right) read.result read.ensures at-enum-told.enum_told.given.1)
-    at-begin-seeds.begin-seeds.ensures
+    (read_is (read_choice args.sheet.now args.left args.right) read.result read.ensures c.in-Got.is)
+    c.begin_seeds.ensures
 
-pub begin-spec : {M : Type 1} → statement M
-begin-spec =
+pub begin_spec : {M : Type 1} → statement M
+begin_spec =
     tie.close
     (tie.spec
     read-choice-requires

@@ -13,87 +13,59 @@ use Rattle.call_frame.proofs.begin_set.Statement.{statement}
 use Rattle.call_frame.proofs.begin_set.Tie as tie
 
 -- ---- the stages of the function, each from a later one
-abbrev start-of-else1 : tie.Else1 → tie.Start
-start-of-else1 s = s.before.before
-
-abbrev else1-of-find-set : tie.After-find-set → tie.Else1
-else1-of-find-set s = s.before.before
-
-abbrev find-set-of-found : tie.After-found → tie.After-find-set
-find-set-of-found s = s.before.before.before.before
-
-abbrev find-set-of-enum-told : tie.After-enum-told → tie.After-find-set
-find-set-of-enum-told s = s.before.before.before.before
-
-abbrev enum-told-of-clear-work : tie.After-clear-work → tie.After-enum-told
-enum-told-of-clear-work s = s.before.before
-
 -- ---- what is left to show
-returns : tie.Need-returns
-returns c = too_short c.if1.true refl
+returns : tie.Need-returns-then-work-lt-WORK_END
+returns c = too_short c.if-work-lt-WORK_END.true refl
 
-find-set-requires : tie.Need-find-set-requires
+find-set-requires : tie.Need-find_set-found-requires
 find-set-requires c κs =
-    let pre = c.before.before.before.requires in
-    (omega (arith, c.before.if1.false), pre.0, pre.1, pre.2, pre.3)
+    let pre = c.requires in
+    (omega (arith, c.if-work-lt-WORK_END.false), pre.0, pre.1, pre.2, pre.3)
 
-enum-known-found : tie.Need-enum-known-found
+enum-known-found : tie.Need-enum_known-found
 enum-known-found c = search rules
 
-enum_told : tie.Need-enum-told
+enum_told : tie.Need-enum_told-1
 enum_told c = search rules
 
-clear-work-requires : tie.Need-clear-work-requires
+clear-work-requires : tie.Need-clear_work-requires
 clear-work-requires c κs =
-    let at-enum-told = c.before in
-    let at-find-set = find-set-of-enum-told at-enum-told in
-    let at-else1 = else1-of-find-set at-find-set in
-    let start = start-of-else1 at-else1 in
-    let args = start.args in
-    let find = at-find-set.find-set in
+    let args = c.args in
+    let find = c.find_set-found in
     let v : List ℕ = args.work.now in
-    let found : SetPasses (sheet_of args.sheet) (limits_of args.caps) (starts_in args.seeds args.k) v find.last.0 =
-    subst (λ (r : Found). SetFound (sheet_of args.sheet) (limits_of args.caps) (starts_in args.seeds args.k) v find.last.0 r)
-    at-enum-told.enum_told.given.1 find.ensures in
-    omega (arith, found.outside.long, at-else1.if1.left)
+    let found : SetPasses (sheet_of args.sheet) (limits_of args.caps) (starts_in args.seeds args.k) v find.new.work =
+    subst (λ (r : Found). SetFound (sheet_of args.sheet) (limits_of args.caps) (starts_in args.seeds args.k) v find.new.work r)
+    c.in_default.is find.ensures in
+    omega (arith, found.outside.long, c.if-work-lt-WORK_END.false)
 
-same_length : tie.Need-same-length
+same_length : tie.Need-shape_of-work-in_default
 same_length c = search rules
 
-returns-2 : tie.Need-returns-2
+returns-2 : tie.Need-returns-in_default
 returns-2 c =
-    let at-clear-work = c.before.before in
-    let at-enum-told = enum-told-of-clear-work at-clear-work in
-    let at-find-set = find-set-of-enum-told at-enum-told in
-    let at-else1 = else1-of-find-set at-find-set in
-    let start = start-of-else1 at-else1 in
-    let args = start.args in
-    let find = at-find-set.find-set in
+    let args = c.args in
+    let find = c.find_set-found in
     let v : List ℕ = args.work.now in
-    let found : SetPasses (sheet_of args.sheet) (limits_of args.caps) (starts_in args.seeds args.k) v find.last.0 =
-    subst (λ (r : Found). SetFound (sheet_of args.sheet) (limits_of args.caps) (starts_in args.seeds args.k) v find.last.0 r)
-    at-enum-told.enum_told.given.1 find.ensures in
-    begun_large (omega (arith, at-else1.if1.left)) found at-clear-work.clear-work.ensures
+    let found : SetPasses (sheet_of args.sheet) (limits_of args.caps) (starts_in args.seeds args.k) v find.new.work =
+    subst (λ (r : Found). SetFound (sheet_of args.sheet) (limits_of args.caps) (starts_in args.seeds args.k) v find.new.work r)
+    c.in_default.is find.ensures in
+    begun_large (omega (arith, c.if-work-lt-WORK_END.false)) found c.clear_work.ensures
 
-same-length-2 : tie.Need-same-length-2
+same-length-2 : tie.Need-shape_of-work
 same-length-2 c = search rules
 
-returns-3 : tie.Need-returns-3
+returns-3 : tie.Need-returns
 returns-3 c =
-    let at-found = c.before in
-    let at-find-set = find-set-of-found at-found in
-    let at-else1 = else1-of-find-set at-find-set in
-    let start = start-of-else1 at-else1 in
-    let args = start.args in
-    let find = at-find-set.find-set in
+    let args = c.args in
+    let find = c.find_set-found in
     let v : List ℕ = args.work.now in
-    let whole : SetWhole (sheet_of args.sheet) (limits_of args.caps) (starts_in args.seeds args.k) v find.last.0 _ _ =
-    subst (λ (r : Found). SetFound (sheet_of args.sheet) (limits_of args.caps) (starts_in args.seeds args.k) v find.last.0 r)
-    at-found.found.given.1 find.ensures in
-    record { long = omega (arith, at-else1.if1.left); whole = whole }
+    let whole : SetWhole (sheet_of args.sheet) (limits_of args.caps) (starts_in args.seeds args.k) v find.new.work _ _ =
+    subst (λ (r : Found). SetFound (sheet_of args.sheet) (limits_of args.caps) (starts_in args.seeds args.k) v find.new.work r)
+    c.in-Whole.is find.ensures in
+    record { long = omega (arith, c.if-work-lt-WORK_END.false); whole = whole }
 
-pub begin-set-spec : {M : Type 1} → statement M
-begin-set-spec =
+pub begin_set_spec : {M : Type 1} → statement M
+begin_set_spec =
     tie.close
     (tie.spec
     returns

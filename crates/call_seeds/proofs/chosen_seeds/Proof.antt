@@ -10,33 +10,33 @@ use Rattle.sheet_types.specs.HeldSheet.{no_configuration}
 use Rattle.call_seeds.proofs.chosen_seeds.Statement.{statement}
 use Rattle.call_seeds.proofs.chosen_seeds.Tie as tie
 
-mul-p : tie.Need-overflow-mul-p
+mul-p : tie.Need-offset_bounds-starts-left
 mul-p c = search rules
 
-array-copy-out-p : tie.Need-array-copy-out-p
+array-copy-out-p : tie.Need-bounds-starts-left
 array-copy-out-p c = search rules
 
-mul-q : tie.Need-overflow-mul-q
+mul-q : tie.Need-offset_bounds-starts-right
 mul-q c = search rules
 
-array-copy-out-q : tie.Need-array-copy-out-q
+array-copy-out-q : tie.Need-bounds-starts-right
 array-copy-out-q c = search rules
 
-array-set-from-seeds : tie.Need-array-set-from-seeds
+array-set-from-seeds : tie.Need-bounds-seeds-0
 array-set-from-seeds c = search rules
 
-array-set-from-seeds-2 : tie.Need-array-set-from-seeds-2
+array-set-from-seeds-2 : tie.Need-bounds-seeds-1
 array-set-from-seeds-2 c = search rules
 
 returns : tie.Need-returns
 returns c =
-    let g = c.before.before.args in
+    let g = c.args in
     let d : Configuration = record { store = 0; count = 0; threads = [] } in
-    ap₂ (λ (p q : Configuration). set (set g.t1 0 p) 1 q) (get_d_any g.t1 g.left d no_configuration (omega arith))
-    (get_d_any g.t1 g.right d no_configuration (omega arith))
+    ap₂ (λ (p q : Configuration). set (set g.starts 0 p) 1 q) (get_d_any g.starts g.left d no_configuration (omega arith))
+    (get_d_any g.starts g.right d no_configuration (omega arith))
 
-pub chosen-seeds-spec : {M : Type 1} → statement M
-chosen-seeds-spec =
+pub chosen_seeds_spec : {M : Type 1} → statement M
+chosen_seeds_spec =
     tie.close
     (tie.spec
     mul-p

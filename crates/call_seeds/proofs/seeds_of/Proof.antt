@@ -6,16 +6,16 @@ use Rattle.call_seeds.specs.Choice.{seeds_held}
 use Rattle.call_seeds.proofs.seeds_of.Statement.{statement}
 use Rattle.call_seeds.proofs.seeds_of.Tie as tie
 
-returns : tie.Need-returns
+returns : tie.Need-returns-then-all
 returns c = search rules
 
-chosen-seeds-requires : tie.Need-chosen-seeds-requires
+chosen-seeds-requires : tie.Need-chosen_seeds-requires
 chosen-seeds-requires c κs = search rules
 
-returns-2 : tie.Need-returns-2
+returns-2 : tie.Need-returns
 returns-2 c =
-    let args = c.before.before.args in
-    c.chosen-seeds.ensures ∙ ap (λ (b : Bool). seeds_held args.starts args.left args.right b) (sym c.before.if1.false)
+    let args = c.args in
+    c.chosen_seeds.ensures ∙ ap (λ (b : Bool). seeds_held args.starts args.left args.right b) (sym c.if-all.false)
 
-pub seeds-of-spec : {M : Type 1} → statement M
-seeds-of-spec = tie.close (tie.spec returns chosen-seeds-requires returns-2)
+pub seeds_of_spec : {M : Type 1} → statement M
+seeds_of_spec = tie.close (tie.spec returns chosen-seeds-requires returns-2)
