@@ -246,7 +246,7 @@ class Function:
         if not by:
             return text
         names = "|".join(sorted(map(re.escape, by), key=len, reverse=True))
-        return re.sub(rf"(?<![^\s(),;{{}}.])({names})\.new((?:\.1)*)\.0(?![\w-])", one, text)
+        return re.sub(rf"(?<![^\s(),;{{}}.])({names})\.(?:new|last)((?:\.1)*)\.0(?![\w-])", one, text)
 
     def flatten(self, text, env):
         """Writes stages of the variables of env out: env maps a variable to (root, place of the root); an alias has a third part, its own place or None."""
@@ -329,7 +329,7 @@ class Function:
 
         text = re.sub(ref, one, text)
         text = self.news(text)
-        text = re.sub(r"not-(?:true|false) _ ([^\s(),;]+\.if[^\s(),;.]*\.(?:true|false))(?![\w-])", r"\1", text)
+        text = re.sub(r"not-(?:true|false) (?:_|[^\s(),;]+) ([^\s(),;]+\.if[^\s(),;.]*\.(?:true|false))(?![\w-])", r"\1", text)
         text = re.sub(r"(\.loop[^\s(){}.;,]*|(?<![^\s(),;]l))\.inv(?![\w-])", r"\1.invariant", text)
         text = re.sub(r"(\.if[^\s(){}.;,]*)\.branch(?![\w-])", r"\1.branch-raw", text)
         text = re.sub(r"(\.in-[^\s(){}.;,]*)\.keys\d*(?![\w-])", r"\1.is", text)
