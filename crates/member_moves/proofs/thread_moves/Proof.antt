@@ -3,7 +3,6 @@ use native.Mathlib.Omega.{arith}
 use Prim.Native.Nat.{◌-◌}
 use lib.ListN.{get_or}
 use borrow.Author.Rules.{rules}
-use borrow.Author.Tests.{eqb-true}
 use Rattle.sheet_types.specs.NodeTable.{nodes_of}
 use Rattle.sheet_types.specs.HeldSheet.{configuration, nodes_in}
 use Rattle.node_walk.specs.TellAskLaws.{counted}
