@@ -127,8 +127,8 @@ wrong_name name = eqb (length name) 0 || not (all (in_class Name) name)
 abbrev pub with_numbers : Call → ℕ → ℕ → ℕ → Parsed → Parsed → Line
 with_numbers call name end digits (Is l) (Is r) =
     Holds (record { call = call; name = name; until = end; left = l; right = r; digits = digits })
-with_numbers call name end digits (Is l) Not = Malformed
-with_numbers call name end digits Not r = Malformed
+with_numbers _ name end digits (Is l) Not = Malformed
+with_numbers _ name end digits Not r = Malformed
 
 -- a name from a place on, then two numbers, then the digits
 unfoldable pub case_of : Call → List ℕ → ℕ → Line
