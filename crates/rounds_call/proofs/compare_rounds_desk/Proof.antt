@@ -5,33 +5,25 @@ use Rattle.rounds_call.proofs.compare_rounds_desk.Statement.{statement}
 use Rattle.rounds_call.proofs.compare_rounds_desk.Tie as tie
 
 -- ---- the stages of the function, each from a later one
-abbrev start-of-desk-caps : tie.After-desk-caps → tie.Start
-start-of-desk-caps s = s.before.before.before.before.before.before
-
-abbrev desk-caps-of-compare-rounds-within : tie.After-compare-rounds-within → tie.After-desk-caps
-desk-caps-of-compare-rounds-within s = s.before
-
 -- ---- what is left to show
-desk-caps-requires : tie.Need-desk-caps-requires
+desk-caps-requires : tie.Need-desk_caps-requires
 desk-caps-requires c κs = search rules
 
-compare-rounds-within-requires : tie.Need-compare-rounds-within-requires
-compare-rounds-within-requires c κs = c.desk-caps.ensures.1
+compare-rounds-within-requires : tie.Need-compare_rounds_within-requires
+compare-rounds-within-requires c κs = c.desk_caps.ensures.1
 
-same_length : tie.Need-same-length
+same_length : tie.Need-shape_of-answer
 same_length c = search rules
 
-same-length-2 : tie.Need-same-length-2
+same-length-2 : tie.Need-shape_of-work
 same-length-2 c = search rules
 
 returns : tie.Need-returns
 returns c =
-    let at-compare-rounds-within = c.before.before.before.before in
-    let at-desk-caps = desk-caps-of-compare-rounds-within at-compare-rounds-within in
-    let args = (start-of-desk-caps at-desk-caps).args in
-    rounds_at at-desk-caps.desk-caps.ensures.0 args.sheet.now args.left args.right args.rounds at-compare-rounds-within.compare-rounds-within.ensures
+    let args = c.args in
+    rounds_at c.desk_caps.ensures.0 args.sheet.now args.left args.right args.rounds c.compare_rounds_within.ensures
 
-pub compare-rounds-desk-spec : {M : Type 1} → statement M
-compare-rounds-desk-spec =
+pub compare_rounds_desk_spec : {M : Type 1} → statement M
+compare_rounds_desk_spec =
     tie.close
     (tie.spec desk-caps-requires compare-rounds-within-requires same_length same-length-2 returns)
