@@ -23,19 +23,19 @@ enum-known-begun-2 c = search rules
 round-set-requires : tie.Need-round_set-r-requires
 round-set-requires c κs =
     let pair = c.begin_pair-started in
-    let set = c.begun-in-Set-1 in
+    let set = c.in-Set in
     let args = c.args in
     pair_ready after_bytes afters_returned (made_after args.rounds) (limits_of args.caps) args.sheet.now args.left args.right args.work.now args.answer.now
-    pair.new.work pair.result pair.ensures set.given.1
+    pair.new.work pair.result pair.ensures set.is
 
 clear-work-requires : tie.Need-clear_work-requires
 clear-work-requires c κs =
     let pair = c.begin_pair-started in
-    let set = c.begun-in-Set-1 in
+    let set = c.in-Set in
     let round = c.round_set-r in
     let args = c.args in
     pair_room after_bytes afters_returned (made_after args.rounds) (limits_of args.caps) args.sheet.now args.left args.right args.work.now args.answer.now
-    pair.new.work pair.result pair.ensures set.given.1 round.ensures
+    pair.new.work pair.result pair.ensures set.is round.ensures
 
 same_length : tie.Need-shape_of-work-in-Refused
 same_length c = search rules
@@ -43,11 +43,11 @@ same_length c = search rules
 returns : tie.Need-returns-in-Refused
 returns c =
     let pair = c.begin_pair-started in
-    let told = c.begun-1 in
+    let told = c.in-Refused in
     let args = c.args in
     rounds_pair (limits_of args.caps) args.sheet.now args.left args.right args.rounds
     (pair_refused after_bytes afters_returned (made_after args.rounds) (limits_of args.caps) args.sheet.now args.left args.right args.work.now args.answer.now
-    pair.new.work pair.result pair.ensures told.given.1)
+    pair.new.work pair.result pair.ensures told.is)
 
 same-length-2 : tie.Need-shape_of-answer
 same-length-2 c = search rules
@@ -58,13 +58,13 @@ same-length-3 c = search rules
 returns-2 : tie.Need-returns-in-Set
 returns-2 c =
     let pair = c.begin_pair-started in
-    let set = c.begun-in-Set-1 in
+    let set = c.in-Set in
     let round = c.round_set-r in
     let clear = c.clear_work in
     let args = c.args in
     rounds_pair (limits_of args.caps) args.sheet.now args.left args.right args.rounds
     (pair_given after_bytes afters_returned (made_after args.rounds) (limits_of args.caps) args.sheet.now args.left args.right args.work.now args.answer.now
-    pair.new.work pair.result pair.ensures set.given.1
+    pair.new.work pair.result pair.ensures set.is
     round.ensures clear.ensures)
 
 pub compare_rounds_within_spec : {M : Type 1} → statement M
