@@ -295,6 +295,8 @@ class Function:
                     for new, old, way in arm[2]:
                         if norm(old).lower() == norm(step[1:]).lower() and steps[:len(way)] == way and (best is None or len(way) > len(best[1])):
                             best = new, way
+                    if not rest and any(norm(old).lower() == norm(step[1:]).lower() and way for new, old, way in arm[2]):
+                        return root[0] + "." + arm[0]
                     if best and best[1]:
                         return ".".join([root[0], arm[0], best[0], *steps[len(best[1]):]])
                 return root[0] + "." + found[1] + rest
@@ -329,6 +331,10 @@ class Function:
 
         text = re.sub(ref, one, text)
         text = self.news(text)
+        for m in list(re.finditer(rf"let ({ID}) = [^\s(){{}};,]*?\.([^\s.(){{}};,]+)\s+in(?=\s)", text)):
+            ways = {".".join(way): new for arm in self.arms.values() if arm[0] == m[2] for new, old, way in arm[2] if way}
+            for way in sorted(ways, key=len, reverse=True):
+                text = re.sub(rf"(?<![^\s(),;{{}}]){re.escape(m[1])}\.{re.escape(way)}(?![\w-])", f"{m[1]}.{ways[way]}", text)
         text = re.sub(r"not-(?:true|false) (?:_|[^\s(),;]+) ([^\s(),;]+\.if[^\s(),;.]*\.(?:true|false))(?![\w-])", r"\1", text)
         text = re.sub(r"(\.loop[^\s(){}.;,]*|(?<![^\s(),;]l))\.inv(?![\w-])", r"\1.invariant", text)
         text = re.sub(r"(\.if[^\s(){}.;,]*)\.branch(?![\w-])", r"\1.branch-raw", text)
