@@ -13,40 +13,37 @@ use Rattle.sheet_text.proofs.sheet_text.Tie as tie
 room-length : {v : List ℕ} → v ≡ replicate work_end 0 → work_end ≡ length v
 room-length e = sym (ap length e ∙ length-replicate {A = ℕ} work_end 0)
 
-answer-room-requires : tie.Need-answer-room-requires
+answer-room-requires : tie.Need-answer_room-answer-requires
 answer-room-requires c κs = search rules
 
-work-room-requires : tie.Need-work-room-requires
+work-room-requires : tie.Need-work_room-work-requires
 work-room-requires c κs = search rules
 
-slice-aggregate-compare : tie.Need-slice-aggregate-compare
+slice-aggregate-compare : tie.Need-slice_bounds-compare-end
 slice-aggregate-compare c = search rules
 
-slice-aggregate-compare-2 : tie.Need-slice-aggregate-compare-2
+slice-aggregate-compare-2 : tie.Need-slice_bounds-compare-end-2
 slice-aggregate-compare-2 c = search rules
 
-compare-requires : tie.Need-compare-requires
+compare-requires : tie.Need-compare-r-requires
 compare-requires c κs = search rules
 
-slice-aggregate-outcome-text : tie.Need-slice-aggregate-outcome-text
+slice-aggregate-outcome-text : tie.Need-slice_bounds-outcome_text-end
 slice-aggregate-outcome-text c = search rules
 
-outcome-text-requires : tie.Need-outcome-text-requires
+outcome-text-requires : tie.Need-outcome_text-requires
 outcome-text-requires c κs = search rules
 
-same_length : tie.Need-same-length
+same_length : tie.Need-shape_of-out
 same_length c = search rules
 
 returns : tie.Need-returns
 returns c =
-    let called = c.before.before.before.before.before.before.before in
-    let works = called.before.before.before in
-    let start = works.before.before.before.before in
-    sheet_written start.args.sheet.now (room-length works.work_room.ensures) works.before.answer_room.ensures called.compare.ensures
-    c.before.before.outcome-text.ensures
+    sheet_written c.args.sheet.now (room-length c.work_room-work.ensures) c.answer_room-answer.ensures c.compare-r.ensures
+    c.outcome_text.ensures
 
-pub sheet-text-spec : {M : Type 1} → statement M
-sheet-text-spec =
+pub sheet_text_spec : {M : Type 1} → statement M
+sheet_text_spec =
     tie.close
     (tie.spec
     answer-room-requires
