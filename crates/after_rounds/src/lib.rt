@@ -3,7 +3,7 @@
 #![tactic(auto)]
 
 // What the rounds say of the two starts: the same, apart, or not known yet.
-#[derive(Drop)]
+#[derive(Clone, Copy)]
 pub enum Verdict {
     Same,
     Diff,
@@ -12,7 +12,7 @@ pub enum Verdict {
 
 // What the call returns of an answer: the verdict, how many classes the round has, how many members the set has, and the answer's length
 // in bytes.
-#[derive(Drop)]
+#[derive(Clone, Copy)]
 pub struct Reached {
     pub verdict: Verdict,
     pub classes: usize,
@@ -21,7 +21,7 @@ pub struct Reached {
 }
 
 // An answer, or the number and place of a refusal.
-#[derive(Drop)]
+#[derive(Clone, Copy)]
 pub enum RoundsAnswer {
     After(Reached),
     Refused(u8, usize),

@@ -2,14 +2,14 @@
 #![tactic(auto)]
 
 // What the call returns of a grouping: the number of the result's round, and the answer's length in bytes.
-#[derive(Drop)]
+#[derive(Clone, Copy)]
 pub struct Grouped {
     pub round: usize,
     pub length: usize,
 }
 
 // A grouping, or the number and place of a refusal.
-#[derive(Drop)]
+#[derive(Clone, Copy)]
 pub enum AllAnswer {
     Classes(Grouped),
     Refused(u8, usize),

@@ -2,7 +2,7 @@
 #![tactic(auto)]
 
 // What the call returns of a report: SAME or DIFF, the round, the places of both starts, and the report's length in bytes.
-#[derive(Drop)]
+#[derive(Clone, Copy)]
 pub struct Reported {
     pub same: bool,
     pub round: usize,
@@ -12,7 +12,7 @@ pub struct Reported {
 }
 
 // A report, or the number and place of a refusal.
-#[derive(Drop)]
+#[derive(Clone, Copy)]
 pub enum Answer {
     Report(Reported),
     Refused(u8, usize),
