@@ -153,7 +153,7 @@ fn begins_with(s: &[u8], bytes: &[u8]) -> bool {
     if s.len() < n {
         return false;
     }
-    *bytes == s[..n]
+    bytes == &s[..n]
 }
 
 // Writes what the desk's call gives beside document 01's, of which the answer and the answer slice are given: whether both are the
