@@ -9,5 +9,4 @@ pub use Rattle.answers.specs.SheetBytes
 pub use Rattle.answers.specs.SheetRead
 pub mod AnswerNumbers
 pub mod KnownNumbers
-pub mod AnswerNumberLaws
 pub mod HandedLaws

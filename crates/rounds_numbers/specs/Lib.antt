@@ -1,3 +1,2 @@
 pub use Rattle.after_rounds.specs.AfterRounds
 pub mod RoundsNumbers
-pub mod RoundsNumberLaws

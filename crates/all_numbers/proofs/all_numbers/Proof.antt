@@ -1,6 +1,6 @@
 -- The numbers are those of the variant.
 use borrow.Author.Rules.{rules}
-use Rattle.all_numbers.specs.AllNumberLaws.{classes_numbers, refused_numbers}
+use Rattle.all_numbers.proofs.AllNumberLaws.{classes_numbers, refused_numbers}
 use Rattle.all_numbers.proofs.all_numbers.Statement.{statement}
 use Rattle.all_numbers.proofs.all_numbers.Tie as tie
 

@@ -1,6 +1,6 @@
 -- The numbers are those of the variant.
 use borrow.Author.Rules.{rules}
-use Rattle.answer_numbers.specs.AnswerNumberLaws.{report_numbers, refusal_numbers}
+use Rattle.answer_numbers.proofs.AnswerNumberLaws.{report_numbers, refusal_numbers}
 use Rattle.answer_numbers.proofs.answer_numbers.Statement.{statement}
 use Rattle.answer_numbers.proofs.answer_numbers.Tie as tie
 

@@ -1,6 +1,6 @@
 -- The call's own answer, as numbers.
 use borrow.Author.Rules.{rules}
-use Rattle.answer_numbers.specs.AnswerNumberLaws.{call_handed}
+use Rattle.answer_numbers.proofs.AnswerNumberLaws.{call_handed}
 use Rattle.hofadiju.proofs.hofadiju_compare.Statement.{statement}
 use Rattle.hofadiju.proofs.hofadiju_compare.Tie as tie
 

@@ -1,6 +1,6 @@
 -- The call's own answer, as numbers.
 use borrow.Author.Rules.{rules}
-use Rattle.all_numbers.specs.AllNumberLaws.{all_handed}
+use Rattle.all_numbers.proofs.AllNumberLaws.{all_handed}
 use Rattle.hofadiju.proofs.hofadiju_compare_all.Statement.{statement}
 use Rattle.hofadiju.proofs.hofadiju_compare_all.Tie as tie
 

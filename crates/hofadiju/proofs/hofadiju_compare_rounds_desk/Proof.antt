@@ -1,6 +1,6 @@
 -- The call's own answer, as numbers.
 use borrow.Author.Rules.{rules}
-use Rattle.rounds_numbers.specs.RoundsNumberLaws.{rounds_handed}
+use Rattle.rounds_numbers.proofs.RoundsNumberLaws.{rounds_handed}
 use Rattle.hofadiju.proofs.hofadiju_compare_rounds_desk.Statement.{statement}
 use Rattle.hofadiju.proofs.hofadiju_compare_rounds_desk.Tie as tie
 

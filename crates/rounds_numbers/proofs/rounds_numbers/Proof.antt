@@ -1,6 +1,6 @@
 -- The numbers are those of the variant.
 use borrow.Author.Rules.{rules}
-use Rattle.rounds_numbers.specs.RoundsNumberLaws.{after_numbers, refused_numbers}
+use Rattle.rounds_numbers.proofs.RoundsNumberLaws.{after_numbers, refused_numbers}
 use Rattle.rounds_numbers.proofs.rounds_numbers.Statement.{statement}
 use Rattle.rounds_numbers.proofs.rounds_numbers.Tie as tie
 

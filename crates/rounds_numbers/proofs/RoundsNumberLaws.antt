@@ -11,7 +11,7 @@ use Rattle.answer_numbers.specs.Outcome.{reported, refusal}
 use Rattle.answer_numbers.specs.Promise.{starts_of}
 use Rattle.rounds_theorem.specs.LimitLaws.{beside, outcomes_beside, one_choice}
 use Rattle.answer_numbers.specs.AnswerNumbers.{outcome_number}
-use Rattle.answer_numbers.specs.AnswerNumberLaws.{answered_handed, refuses_above}
+use Rattle.answer_numbers.proofs.AnswerNumberLaws.{answered_handed, refuses_above}
 use Rattle.answer_numbers.specs.HandedLaws.{handed_beside}
 use Rattle.after_rounds.specs.AfterRounds as spec
 use Rattle.after_rounds.specs.AfterRounds.{SAME, DIFF, OPEN, Afters, after_length, compare_rounds_with}

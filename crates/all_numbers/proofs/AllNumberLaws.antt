@@ -6,7 +6,7 @@ use Rattle.all_call.specs.RefusalNumbers.{sheet_number_low}
 use Rattle.answer_numbers.specs.CallLimits.{Limits}
 use Rattle.answer_numbers.specs.Outcome.{reported, refusal}
 use Rattle.answer_numbers.specs.AnswerNumbers.{outcome_number}
-use Rattle.answer_numbers.specs.AnswerNumberLaws.{answered_handed, refuses_above}
+use Rattle.answer_numbers.proofs.AnswerNumberLaws.{answered_handed, refuses_above}
 use Rattle.all_starts.specs.Grouping.{Groups}
 use Rattle.all_starts.specs.GroupingRead.{groups_returned}
 use Rattle.all_starts.specs.GroupingPromise.{RefusesAll}
