@@ -19,22 +19,12 @@ use Rattle.tell_ask_visits.proofs.visit_ask.Statement.{statement}
 use Rattle.tell_ask_visits.proofs.visit_ask.Tie as tie
 
 -- ---- the stages of the function, each from a later one
--- ---- the threads that the next node opens to, as they stand in the table
-abbrev next-threads : tie.Start → List ℕ
-next-threads s = opened_in (opened_of s.args.table.now) s.args.q
-
-places : (s : tie.Start) → length s.args.e.threads ≡ 8
-places s = search rules
-
-few-fit : (s : tie.Else-not-joined) → s.put_beside-joined.result.fits ≡ true
-few-fit s = not-false s.put_beside-joined.result.fits s.if-not-joined.false
-
 -- ---- what is noted is the moves of the ask
 noted-ask : (s : tie.After-note_labels-r) (nodes : List Node)
     →
     let g = s.args in
     let a = s.labels_at-found in
-    next-threads s.before.before.before.before.before.before.before.before.before.before.before.before.before.before ≡ opened nodes g.q
+    opened_in (opened_of s.args.table.now) s.args.q ≡ opened nodes g.q
     → NotedAllAs a.new.work g.b.first g.s.running g.b.caps
     (label_moves a.new.work g.b.store (sort_up (opened nodes g.q ++ (node_beside g.e).threads)) a.result.first a.result.end)
     s.note_labels-r.new.work s.note_labels-r.result
@@ -44,24 +34,26 @@ noted-ask s nodes o =
     subst
     (λ (l : List ℕ). NotedAllAs a.new.work g.b.first g.s.running g.b.caps
     (label_moves a.new.work g.b.store l a.result.first a.result.end) s.note_labels-r.new.work s.note_labels-r.result)
-    (beside_sorted {threads = next-threads s.before.before.before.before.before.before.before.before.before.before.before.before.before.before} s.put_beside-joined.ensures (opened nodes g.q) o
-    s.requires.1.threads.ascending (few-fit s.before.before.before.before.before.before.before.before.before)) s.note_labels-r.ensures
+    (beside_sorted {threads = opened_in (opened_of s.args.table.now) s.args.q} s.put_beside-joined.ensures (opened nodes g.q) o
+    s.requires.1.threads.ascending (not-false s.put_beside-joined.result.fits s.if-not-joined.false)) s.note_labels-r.ensures
 
 -- ---- what is left to show
 put-beside-requires : tie.Need-put_beside-joined-requires
 put-beside-requires c κs =
     let P = c.requires in
-    let k = counted c.args.e.threads c.args.e.count (places c.before.before) P.2 in
+    let eight : length c.args.e.threads ≡ 8 = c.well_formed.1.1.1.1.1.0.1.1.1.1.0.1.0.1 in
+    let k = counted c.args.e.threads c.args.e.count eight P.2 in
     (omega (arith, P.4, P.5), omega (arith, k, P.1.threads.few), P.0.collecting.caps.2, P.6, P.1.threads.ascending)
 
 returns : tie.Need-returns-then-not-joined
 returns c =
     let P = c.requires in
+    let eight : length c.args.e.threads ≡ 8 = c.well_formed.1.1.1.1.1.0.1.1.1.1.0.1.0.1 in
     let b = c.put_beside-joined in
     record {
       turned = λ nodes of x o.
           ask_no_room P.0 P.1 nodes of x
-          (beside_many {threads = next-threads c.before.before.before.before.before} b.ensures (opened nodes c.args.q) o (places c.before.before.before.before.before) P.2
+          (beside_many {threads = opened_in (opened_of c.args.table.now) c.args.q} b.ensures (opened nodes c.args.q) o eight P.2
           (not-true b.result.fits c.if-not-joined.true));
     }
 
@@ -74,7 +66,7 @@ note-labels-requires c κs =
     let b = c.put_beside-joined in
     let a = c.labels_at-found in
     let k : b.result.at.count ≤ 8 =
-    beside_count {threads = next-threads c.before.before.before.before.before.before.before.before.before.before.before.before.before} b.ensures P.0.collecting.caps.2 (few-fit c.before.before.before.before.before.before.before.before) in
+    beside_count {threads = opened_in (opened_of c.args.table.now) c.args.q} b.ensures P.0.collecting.caps.2 (not-false c.put_beside-joined.result.fits c.if-not-joined.false) in
     (answered_collecting P.0 a.ensures, omega (arith, k, P.2), answered_stand P.0 a.ensures)
 
 enum-known-r : tie.Need-enum_known-r
@@ -101,11 +93,12 @@ same-length-2 c = search rules
 returns-3 : tie.Need-returns
 returns-3 c =
     let P = c.requires in
+    let eight : length c.args.e.threads ≡ 8 = c.well_formed.1.1.1.1.1.0.1.1.1.1.0.1.0.1 in
     record {
       turned = λ nodes of x o.
           ask_turn P.0 P.1 nodes of x c.labels_at-found.ensures P.4
-          (beside_few {threads = next-threads c.before.before.before.before.before.before.before.before.before.before.before.before.before.before.before.before.before.before} c.put_beside-joined.ensures (opened nodes c.args.q) o
-          (places c.before.before.before.before.before.before.before.before.before.before.before.before.before.before.before.before.before.before) P.2 (few-fit c.before.before.before.before.before.before.before.before.before.before.before.before.before))
+          (beside_few {threads = opened_in (opened_of c.args.table.now) c.args.q} c.put_beside-joined.ensures (opened nodes c.args.q) o
+          eight P.2 (not-false c.put_beside-joined.result.fits c.if-not-joined.false))
           (all_on c.in-On.is (noted-ask c.before.before.before.before nodes o));
     }
 
