@@ -9,7 +9,7 @@ use Rattle.answers.specs.CallLimits.{Limits}
 use Rattle.answers.specs.Classes.{share, class_total}
 use Rattle.answers.specs.Set.{explored}
 use Rattle.answers.specs.SheetTransitions.{transitions}
-use Rattle.answers.specs.Outcome.{cleared}
+use Rattle.answers.specs.Outcome.{cleared, Outcome, refusal, reported}
 use Rattle.answers.specs.Promise.{RefusesBy, GivesBy, PromiseBy, ResultRound, SetListed, starts_of}
 use Rattle.answers.specs.declared.Reported.{Reported}
 use Rattle.call_promise.specs.CallPromise.{report_read}
@@ -19,8 +19,6 @@ use Rattle.after_rounds.specs.AfterRoundsRead.{reached_of, after_read}
 use Rattle.after_rounds.specs.declared.Verdict.{Verdict}
 use Rattle.after_rounds.specs.declared.Verdict.TheVariants.{Same, Diff}
 use Rattle.after_rounds.specs.declared.Reached.{Reached}
-use Rattle.after_rounds.specs.declared.RoundsAnswer.{RoundsAnswer}
-use Rattle.after_rounds.specs.declared.RoundsAnswer.TheVariants.{After, Refused}
 
 -- A watcher can tell two configurations apart in some number of moves up to k.
 pub record ToldBy (sheet : Sheet) (k : ℕ) (p q : Configuration) : Type 0 where
@@ -78,9 +76,9 @@ pub record ReachedPromise (l : Limits) (bytes : List ℕ) (left right k : ℕ) (
 
 -- The work slice v became w, the answer slice `before` became `after`, and `answer` was returned: each refusal under its condition
 -- and no other, and otherwise the answer.
-abbrev pub RoundsPromise : Limits → List ℕ → ℕ → ℕ → ℕ → List ℕ → List ℕ → List ℕ → List ℕ → RoundsAnswer → Type 1
+abbrev pub RoundsPromise : Limits → List ℕ → ℕ → ℕ → ℕ → List ℕ → List ℕ → List ℕ → List ℕ → Outcome Reached → Type 1
 RoundsPromise l bytes left right k =
-    PromiseBy Refused (RefusesAfter l bytes left right k) After reached_of (GivesAfter l bytes left right k) (ReachedPromise l bytes left right k)
+    PromiseBy refusal (RefusesAfter l bytes left right k) reported reached_of (GivesAfter l bytes left right k) (ReachedPromise l bytes left right k)
 
 -- ---- the card's sentences
 -- Two answers on the same starts, y after at least as many rounds as x: SAME and DIFF stay.
@@ -94,8 +92,8 @@ OneAnswer = OneWritten (λ x. x.length)
 
 -- Card 3's sentence for this call: one input and the same slices, the first call within limits l, which are nowhere above those of the
 -- second.
-abbrev pub LowerRounds : Limits → List ℕ → ℕ → ℕ → List ℕ → List ℕ → RoundsAnswer → List ℕ → List ℕ → RoundsAnswer → Type 0
-LowerRounds = LowerBy Refused
+abbrev pub LowerRounds : Limits → List ℕ → ℕ → ℕ → List ℕ → List ℕ → Outcome Reached → List ℕ → List ℕ → Outcome Reached → Type 0
+LowerRounds = LowerBy refusal
 
 -- a report's verdict
 abbrev pub report_verdict : Bool → Verdict

@@ -2,15 +2,13 @@
 use Rattle.std.specs.Prelude.{List, ℕ, length, drop}
 use Rattle.answers.specs.SheetBytes.{word}
 use Rattle.answers.specs.Classes.{class_total}
-use Rattle.answers.specs.Outcome.{reported, refusal}
+use Rattle.answers.specs.Outcome.{reported, refusal, Outcome}
 use Rattle.answers.specs.ReadBack.{members_read, classes_read}
 use Rattle.after_rounds.specs.AfterRounds as spec
 use Rattle.after_rounds.specs.AfterRounds.{AfterRounds, SAME, DIFF, OPEN, after_length, Afters}
 use Rattle.after_rounds.specs.declared.Verdict.{Verdict}
 use Rattle.after_rounds.specs.declared.Verdict.TheVariants.{Same, Diff, Open}
 use Rattle.after_rounds.specs.declared.Reached.{Reached}
-use Rattle.after_rounds.specs.declared.RoundsAnswer.{RoundsAnswer}
-use Rattle.after_rounds.specs.declared.RoundsAnswer.TheVariants.{After, Refused}
 
 -- ---- what is returned
 abbrev pub verdict_returned : spec.Verdict → Verdict
@@ -23,9 +21,9 @@ abbrev pub reached_of : AfterRounds → Reached
 reached_of a =
     record { verdict = verdict_returned a.verdict; classes = class_total a.classes; members = length a.members; length = after_length a }
 
-abbrev pub afters_returned : Afters → RoundsAnswer
-afters_returned (reported a) = After (reached_of a)
-afters_returned (refusal number place) = Refused number place
+abbrev pub afters_returned : Afters → Outcome Reached
+afters_returned (reported a) = reported (reached_of a)
+afters_returned (refusal number place) = refusal number place
 
 -- ---- what is read back
 abbrev pub verdict_read : Verdict → spec.Verdict

@@ -1,9 +1,8 @@
-// What the call for so many rounds answers with (document 02, card 13): the types, the definition of the call and its promise. No
-// functions.
+// What the call for so many rounds gives (document 02, card 13): the types, the definition of the call and its promise. No functions.
 #![tactic(auto)]
 
 // What the rounds say of the two starts: the same, apart, or not known yet.
-#[derive(Clone, Copy)]
+#[derive(Clone, Copy, PartialEq, Eq, Debug)]
 pub enum Verdict {
     Same,
     Diff,
@@ -12,17 +11,10 @@ pub enum Verdict {
 
 // What the call returns of an answer: the verdict, how many classes the round has, how many members the set has, and the answer's length
 // in bytes.
-#[derive(Clone, Copy)]
+#[derive(Clone, Copy, PartialEq, Eq, Debug)]
 pub struct Reached {
     pub verdict: Verdict,
     pub classes: usize,
     pub members: usize,
     pub length: usize,
-}
-
-// An answer, or the number and place of a refusal.
-#[derive(Clone, Copy)]
-pub enum RoundsAnswer {
-    After(Reached),
-    Refused(u8, usize),
 }

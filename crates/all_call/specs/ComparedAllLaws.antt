@@ -1,26 +1,26 @@
 -- From the set that the call begins with, and the grouping over it, to the outcome of the call.
-use Rattle.std.specs.Prelude.{◌≡◌, ℕ, ◌≤◌, ◌<◌, length, get_or}
+use Rattle.std.specs.Prelude.{◌≡◌, ℕ, ◌≤◌, ◌<◌, length, get_or, Result, Ok, Err, IfOk}
 use Rattle.std.proofs.Math.Path.{refl}
-use Rattle.std.proofs.Common.{subst, arith}
+use Rattle.std.proofs.Common.{ap, subst, arith}
 use mathlib.Core.List.{List, [], Memᴰ}
 use Rattle.collected_moves.specs.ListPlaces.{get_d_in}
 use Rattle.call_frame.specs.Sheet as spec
 use Rattle.work_layout.specs.CallLimits.{Limits}
 use Rattle.work_layout.specs.Set.{explored}
-use Rattle.work_layout.specs.Outcome.{cleared}
+use Rattle.work_layout.specs.Outcome.{cleared, Outcome, refusal, reported}
 use Rattle.set_grouping.specs.SetLaws.{fits_not_over, explored_closed, explored_ascends, explored_seeds}
 use Rattle.work_layout.specs.WorkLayout.{work_end}
 use Rattle.set_grouping.specs.RoundLayout.{held_found}
-use Rattle.call_frame.specs.declared.Begun.TheVariants.{Set, Refused}
+use Rattle.refusals.specs.Numbers.{number}
+use Rattle.refusals.specs.declared.Refused.{Refused}
 use Rattle.call_frame.specs.declared.AllStarted.{AllStarted}
-use Rattle.call_frame.specs.Begun.{StartsListed, AllBegun}
+use Rattle.call_frame.specs.Begun.{StartsListed, all_size, AllBegun}
 use Rattle.call_frame.specs.BegunLaws.{sheet_read_lem, GoesOn, begun_on}
 use Rattle.call_frame.specs.Answered.{made_on, answered, answered_refused, answered_made}
 use Rattle.set_grouping.specs.GroupingMade.{AllHeld, GroupingReady, GroupingMade}
 use Rattle.all_starts.specs.Grouping.{Groups, grouping_on, grouping_bytes, compare_all_with}
 use Rattle.all_starts.specs.GroupingRead.{groups_returned}
-use Rattle.all_starts.specs.declared.AllAnswer.{AllAnswer}
-use Rattle.all_starts.specs.declared.AllAnswer.TheVariants as answer
+use Rattle.all_starts.specs.declared.Grouped.{Grouped}
 use Rattle.all_call.specs.ComparedAll.{ComparedAll}
 
 -- the seeds are all starts
@@ -33,20 +33,26 @@ module _ (l : Limits) (bytes : List ℕ) where
   unfolding compare_all_with
   all_framed work room = refl
 
-  module _ (v before w : List ℕ) (r : AllStarted) (x : AllBegun l bytes v w r) where
+  module _ (v before w : List ℕ) (r : Result AllStarted Refused) (x : AllBegun l bytes v w r) where
     -- the call is refused before anything is done with a set
-    pub all_call_refused : {number place : ℕ} → r.begun ≡ Refused number place
-        → ComparedAll (compare_all_with l bytes (length v) (length before)) v before w before (answer.Refused number place)
-    all_call_refused {number} {place} e =
-        subst (λ (o : Groups). ComparedAll o v before w before (answer.Refused number place)) (all_framed (length v) (length before))
-        (answered_refused grouping_bytes groups_returned grouping_on (sheet_read_lem bytes) l all_starts x.begun e)
+    pub all_call_refused : {e : Refused} → r ≡ Err e
+        → ComparedAll (compare_all_with l bytes (length v) (length before)) v before w before (refusal (number e.refusal) e.place)
+    all_call_refused {e} is =
+        subst (λ (o : Groups). ComparedAll o v before w before (refusal (number e.refusal) e.place)) (all_framed (length v) (length before))
+        (answered_refused grouping_bytes groups_returned grouping_on (sheet_read_lem bytes) l all_starts x.begun (ap all_size is))
 
-    module _ {n m : ℕ} (e : r.begun ≡ Set n m) where
+    module _ {s : AllStarted} (is : r ≡ Ok s) where
+      abbrev n : ℕ
+      n = s.size.members
+
+      abbrev m : ℕ
+      m = s.size.moves
+
       on : GoesOn (made_on grouping_bytes groups_returned grouping_on (sheet_read_lem bytes) l all_starts (length before)) (sheet_read_lem bytes) l all_starts v w n m
-      on = begun_on (made_on grouping_bytes groups_returned grouping_on (sheet_read_lem bytes) l all_starts (length before)) (sheet_read_lem bytes) l all_starts x.begun e
+      on = begun_on (made_on grouping_bytes groups_returned grouping_on (sheet_read_lem bytes) l all_starts (length before)) (sheet_read_lem bytes) l all_starts x.begun (ap all_size is)
 
-      starts : StartsListed on.sheet.starts r
-      starts = x.starts on.sheet on.end on.read
+      starts : StartsListed on.sheet.starts s
+      starts = subst (λ (z : Result AllStarted Refused). IfOk z (StartsListed on.sheet.starts)) is (x.starts on.sheet on.end on.read)
 
       abbrev set : List spec.Configuration
       set = explored on.sheet l on.sheet.starts
@@ -59,7 +65,7 @@ module _ (l : Limits) (bytes : List ℕ) where
           get_d_in on.sheet.starts 0 (record { store = 0; threads = [] }) (omega (arith, on.fine.within.some_starts)) in
           omega (arith, (held_found on.sheet set w n m on.whole.held first (explored_seeds on.sheet l on.sheet.starts first there)).0)
 
-      all_held : AllHeld on.sheet set w n m r.starts r.count
+      all_held : AllHeld on.sheet set w n m s.starts s.count
       all_held =
           let sheet : spec.Sheet = on.sheet in
           record {
@@ -75,16 +81,16 @@ module _ (l : Limits) (bytes : List ℕ) where
           }
 
       -- the grouping can be made
-      pub all_call_ready : GroupingReady w n m r.starts r.count
+      pub all_call_ready : GroupingReady w n m s.starts s.count
       all_call_ready =
           record { sheet = on.sheet; set = set; all = all_held; count = starts.few; threads = starts.threads }
 
       -- the work slice can be cleared after it
-      pub all_call_room : {z after : List ℕ} {a : AllAnswer} → GroupingMade w before n m r.starts r.count z after a → work_end ≤ length z
+      pub all_call_room : {z after : List ℕ} {a : Outcome Grouped} → GroupingMade w before n m s.starts s.count z after a → work_end ≤ length z
       all_call_room made = omega (arith, on.long, on.whole.outside.long, made.outside.long)
 
       -- and is the outcome
-      pub all_call_given : {z after u : List ℕ} {a : AllAnswer} → GroupingMade w before n m r.starts r.count z after a → u ≡ cleared z
+      pub all_call_given : {z after u : List ℕ} {a : Outcome Grouped} → GroupingMade w before n m s.starts s.count z after a → u ≡ cleared z
           → ComparedAll (compare_all_with l bytes (length v) (length before)) v before u after a
       all_call_given {after = after} {u} {a} made c =
           subst (λ (o : Groups). ComparedAll o v before u after a) (all_framed (length v) (length before))
@@ -92,7 +98,7 @@ module _ (l : Limits) (bytes : List ℕ) where
           (made.bytes on.sheet set all_held) made.outside c)
 
 -- the call within caps is the call within the limits that they stand for
-pub compared_all_at : {k l : Limits} → k ≡ l → (bytes : List ℕ) {v before w after : List ℕ} {a : AllAnswer}
+pub compared_all_at : {k l : Limits} → k ≡ l → (bytes : List ℕ) {v before w after : List ℕ} {a : Outcome Grouped}
     → ComparedAll (compare_all_with k bytes (length v) (length before)) v before w after a
     → ComparedAll (compare_all_with l bytes (length v) (length before)) v before w after a
 compared_all_at e bytes {v} {before} {w} {after} {a} c =

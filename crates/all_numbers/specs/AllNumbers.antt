@@ -1,11 +1,10 @@
 -- What a caller in C gets of the call for all starts: a number that is returned, and three more. Rows for them, as include/hofadiju.h
 -- has them: round, length, place.
 use Rattle.std.specs.Prelude.{◌≡◌, refl, List, [], ◌∷◌, ℕ}
-use Rattle.answer_numbers.specs.Outcome.{reported, refusal}
+use Rattle.answer_numbers.specs.Outcome.{reported, refusal, Outcome}
 use Rattle.answer_numbers.specs.AnswerNumbers.{outcome_number, HandedBy}
 use Rattle.all_starts.specs.Grouping.{Groups, grouping_bytes, grouping_length}
-use Rattle.all_starts.specs.declared.AllAnswer.{AllAnswer}
-use Rattle.all_starts.specs.declared.AllAnswer.TheVariants.{Classes, Refused}
+use Rattle.all_starts.specs.declared.Grouped.{Grouped}
 
 -- the result's round, the answer's length, the refusal's place; 0 for what does not apply
 abbrev pub groups_numbers : Groups → List ℕ
@@ -17,13 +16,9 @@ abbrev pub HandedAll : Groups → List ℕ → List ℕ → List ℕ → List �
 HandedAll = HandedBy grouping_bytes groups_numbers
 
 -- ---- the same of the library's own answer
-abbrev pub all_number : AllAnswer → ℕ
-all_number (Classes x) = 0
-all_number (Refused number place) = number
-
-abbrev pub all_numbers : AllAnswer → List ℕ
-all_numbers (Classes x) = x.round ∷ x.length ∷ 0 ∷ []
-all_numbers (Refused number place) = 0 ∷ 0 ∷ place ∷ []
+abbrev pub all_numbers : Outcome Grouped → List ℕ
+all_numbers (reported x) = x.round ∷ x.length ∷ 0 ∷ []
+all_numbers (refusal number place) = 0 ∷ 0 ∷ place ∷ []
 
 -- ---- rows: the number that is returned and the three after it, of a grouping of six bytes with two starts, and of a refusal
 abbrev handed : Groups → List ℕ

@@ -7,14 +7,12 @@ use Rattle.answers.specs.SheetBytes.{SheetIs, SheetRefused}
 use Rattle.answers.specs.CallLimits.{Limits}
 use Rattle.answers.specs.Classes.{class_of}
 use Rattle.answers.specs.Set.{explored}
-use Rattle.answers.specs.Outcome.{cleared}
+use Rattle.answers.specs.Outcome.{cleared, Outcome, refusal, reported}
 use Rattle.answers.specs.Promise.{RefusesBy, GivesBy, PromiseBy, ResultRound, Classified}
 use Rattle.answers.specs.declared.Reported.{Reported}
 use Rattle.all_starts.specs.Grouping.{Grouping, grouping_on, grouping_bytes, grouping_length}
 use Rattle.all_starts.specs.GroupingRead.{grouped_of, grouping_read}
 use Rattle.all_starts.specs.declared.Grouped.{Grouped}
-use Rattle.all_starts.specs.declared.AllAnswer.{AllAnswer}
-use Rattle.all_starts.specs.declared.AllAnswer.TheVariants.{Classes, Refused}
 
 -- What a grouping of a sheet's starts says.
 pub record FaithfulAll (sheet : Sheet) (g : Grouping) : Type 1 where
@@ -49,8 +47,8 @@ pub record GroupingPromise (l : Limits) (bytes v before w after : List ℕ) (x :
 
 -- The work slice v became w, the answer slice `before` became `after`, and `answer` was returned: each refusal under its condition
 -- and no other, and otherwise the grouping.
-abbrev pub AllPromise : Limits → List ℕ → List ℕ → List ℕ → List ℕ → List ℕ → AllAnswer → Type 1
-AllPromise l bytes = PromiseBy Refused (RefusesAll l bytes) Classes grouped_of (GivesAll l bytes) (GroupingPromise l bytes)
+abbrev pub AllPromise : Limits → List ℕ → List ℕ → List ℕ → List ℕ → List ℕ → Outcome Grouped → Type 1
+AllPromise l bytes = PromiseBy refusal (RefusesAll l bytes) reported grouped_of (GivesAll l bytes) (GroupingPromise l bytes)
 
 -- ---- beside the comparing call
 -- Card 1's sentence, where neither call is refused: of the bytes `after` and of what both returned. Two starts share a class in what is

@@ -1,20 +1,18 @@
 -- A grouping read back from what the call returned and from the answer's bytes, and what the call returns of an outcome.
 use Rattle.std.specs.Prelude.{List, [], ◌∷◌, ℕ, ◌+◌, ◌*◌, take, drop}
 use Rattle.answers.specs.SheetBytes.{word}
-use Rattle.answers.specs.Outcome.{reported, refusal}
+use Rattle.answers.specs.Outcome.{reported, refusal, Outcome}
 use Rattle.answers.specs.ReadBack.{members_read, classes_read, behind_members}
 use Rattle.all_starts.specs.Grouping.{Grouping, grouping_length, Groups}
 use Rattle.all_starts.specs.declared.Grouped.{Grouped}
-use Rattle.all_starts.specs.declared.AllAnswer.{AllAnswer}
-use Rattle.all_starts.specs.declared.AllAnswer.TheVariants.{Classes, Refused}
 
 -- ---- what is returned
 abbrev pub grouped_of : Grouping → Grouped
 grouped_of g = record { round = g.round; length = grouping_length g }
 
-abbrev pub groups_returned : Groups → AllAnswer
-groups_returned (reported g) = Classes (grouped_of g)
-groups_returned (refusal number place) = Refused number place
+abbrev pub groups_returned : Groups → Outcome Grouped
+groups_returned (reported g) = reported (grouped_of g)
+groups_returned (refusal number place) = refusal number place
 
 -- ---- what is read back
 -- numbers of two bytes, the low one first, to the end; a byte beyond the end counts as 0

@@ -1,3 +1,4 @@
+pub use Rattle.answers.specs.OutcomeOf
 pub use Rattle.answers.specs.Classes
 pub use Rattle.answers.specs.Rounds
 pub mod Grouping

@@ -1,4 +1,5 @@
 -- The promise fixes the call for all starts: of the same input, what two calls that keep it return and leave in both slices is the same.
+use Rattle.answers.specs.Outcome.{Outcome}
 use Rattle.std.specs.Prelude.{◌≡◌, List, ◌++◌, ℕ, length, drop}
 use Rattle.std.proofs.Common.{sym, ap, ◌∙◌}
 use Rattle.answers.specs.SheetRead.{one_sheet}
@@ -7,7 +8,6 @@ use Rattle.promise_laws.specs.PromiseAlone.{promise_alone}
 use Rattle.all_starts.specs.Grouping.{Grouping, grouping_bytes}
 use Rattle.all_starts.specs.GroupingPromise.{grouping_for, GivesAll, GroupingPromise, AllPromise}
 use Rattle.all_starts.specs.declared.Grouped.{Grouped}
-use Rattle.all_starts.specs.declared.AllAnswer.{AllAnswer}
 use Rattle.all_theorem.specs.AllTheorem.{all_decides}
 
 -- a sheet has one grouping
@@ -22,7 +22,7 @@ grouping_fixes {before = before} {x = x} m n = (
   m.work ∙ sym n.work,
 )
 
-pub all_alone : (l : Limits) (bytes v before : List ℕ) {w after : List ℕ} {answer : AllAnswer} {w2 after2 : List ℕ} {answer2 : AllAnswer}
+pub all_alone : (l : Limits) (bytes v before : List ℕ) {w after : List ℕ} {answer : Outcome Grouped} {w2 after2 : List ℕ} {answer2 : Outcome Grouped}
     → AllPromise l bytes v before w after answer → AllPromise l bytes v before w2 after2 answer2
     → (answer ≡ answer2) × (after ≡ after2) × (w ≡ w2)
 all_alone l bytes v before a b = promise_alone (all_decides l bytes (length v) (length before)) (λ x. grouping_fixes) a b

@@ -6,7 +6,7 @@ use Rattle.answers.specs.SheetRead.{sheet_reads}
 use Rattle.call_theorem.specs.ReadingLaws.{written_admissible}
 use Rattle.call_theorem.specs.RefusalNumbers.{sheet_number_low}
 use Rattle.answers.specs.CallLimits.{Limits, NoGreater, limits}
-use Rattle.answers.specs.Outcome.{reported, cleared}
+use Rattle.answers.specs.Outcome.{reported, cleared, Outcome, refusal}
 use Rattle.call_theorem.specs.RoomLaws.{never_short_answer}
 use Rattle.call_theorem.specs.LimitLaws.{own_limits}
 use Rattle.promise_laws.specs.PromiseKept.{Variants, promise_kept}
@@ -14,13 +14,11 @@ use Rattle.all_starts.specs.Grouping.{Grouping, grouping_bytes, grouping_length,
 use Rattle.all_starts.specs.GroupingRead.{grouped_of, groups_returned, grouping_read}
 use Rattle.all_starts.specs.GroupingPromise.{FaithfulAll, grouping_for, RefusesAll, GivesAll, GroupingPromise, AllPromise}
 use Rattle.all_starts.specs.declared.Grouped.{Grouped}
-use Rattle.all_starts.specs.declared.AllAnswer.{AllAnswer}
-use Rattle.all_starts.specs.declared.AllAnswer.TheVariants.{Classes, Refused}
 use Rattle.all_call.specs.ComparedAll.{ComparedAll}
 use Rattle.all_theorem.specs.AllTheorem.{all_refuses, all_gives, grouping_faithful, grouping_room_lem, grouping_back}
 
 -- a grouping is no refusal, and each of both has its own arguments
-variants : Variants Refused Classes
+variants : Variants {X = Grouped} refusal reported
 variants =
     record {
       never = λ x number place e. let z : ◌≡◌ {A = ℕ} 0 1 = cc in omega arith;
@@ -28,7 +26,7 @@ variants =
       one_given = λ x y e. cc;
     }
 
-module _ (l : Limits) (bytes v before w after : List ℕ) (answer : AllAnswer) (small : NoGreater l limits) where
+module _ (l : Limits) (bytes v before w after : List ℕ) (answer : Outcome Grouped) (small : NoGreater l limits) where
   -- what goes with a grouping that was returned and written
   grouping_made : (g : Grouping) → GivesAll l bytes (length v) (length before) g → (x : Grouped) → x ≡ grouped_of g
       → after ≡ grouping_after (reported g) before → w ≡ cleared v → GroupingPromise l bytes v before w after x
@@ -56,14 +54,14 @@ module _ (l : Limits) (bytes v before w after : List ℕ) (answer : AllAnswer) (
       (all_gives l bytes (length v) (length before)) grouping_made
 
 -- within document 01's limits
-pub all_document_promise : (bytes v before w after : List ℕ) (answer : AllAnswer)
+pub all_document_promise : (bytes v before w after : List ℕ) (answer : Outcome Grouped)
     → ComparedAll (compare_all bytes (length v) (length before)) v before w after answer → AllPromise limits bytes v before w after answer
 all_document_promise bytes v before w after answer = all_promise limits bytes v before w after answer (own_limits limits)
 
 -- ---- the room that the limits name
-module _ {l : Limits} {bytes v before w after : List ℕ} {answer : AllAnswer} (a : AllPromise l bytes v before w after answer) where
+module _ {l : Limits} {bytes v before w after : List ℕ} {answer : Outcome Grouped} (a : AllPromise l bytes v before w after answer) where
   -- no answer is longer
-  pub all_within : (x : Grouped) → answer ≡ Classes x → x.length ≤ grouping_room l
+  pub all_within : (x : Grouped) → answer ≡ reported x → x.length ≤ grouping_room l
   all_within x e =
       let m = a.made x e in
       let g = m.gives in
@@ -75,7 +73,7 @@ module _ {l : Limits} {bytes v before w after : List ℕ} {answer : AllAnswer} (
       )
 
   -- and with that room 22 is not given
-  pub all_room_enough : {place : ℕ} → grouping_room l ≤ length before → answer ≡ Refused short_answer place → ⊥
+  pub all_room_enough : {place : ℕ} → grouping_room l ≤ length before → answer ≡ refusal short_answer place → ⊥
   all_room_enough {place} room e =
       never_short_answer (λ k x. omega (arith, (sheet_number_low bytes short_answer k ((sheet_reads bytes).is_refused short_answer k x)).within))
       (λ sheet c none. omega (arith, room, grouping_room_lem l sheet (written_admissible bytes sheet c) none)) (a.refused short_answer place e).refuses

@@ -1,5 +1,6 @@
 -- Document 02, card 1, sentence by sentence: what follows for a caller who has the grouping, and for one who has the comparing call's
 -- answer beside it. Proved of any two calls that keep their promises, each within limits and with slices of its own.
+use Rattle.answers.specs.Outcome.{Outcome, refusal, reported}
 use Rattle.std.specs.Prelude.{◌≡◌, refl, ◌↔◌, Bool, true, false, ℕ, ◌<◌, length, get_or}
 use Rattle.std.proofs.Common.{sym, ap, ◌∙◌, arith, eqb-true, eq-eqb}
 use Rattle.std.proofs.Math.Path.{subst}
@@ -24,8 +25,6 @@ use Rattle.call_theorem.specs.Theorem.{both_hold, same_not_diff}
 use Rattle.call_theorem.specs.LimitLaws.{passes_lower}
 use Rattle.answers.specs.ReadBack.{read_back_lem}
 use Rattle.answers.specs.declared.Reported.{Reported}
-use Rattle.answers.specs.declared.Answer.{Answer}
-use Rattle.answers.specs.declared.Answer.TheVariants.{Report, Refused}
 use Rattle.answers.specs.Call.{compare}
 use Rattle.call_theorem.specs.Compared.{Compared}
 use Rattle.call_theorem.specs.CallPromise.{verdict_read, report_read, CallPromise}
@@ -36,7 +35,6 @@ use Rattle.all_starts.specs.Grouping.{Grouping, compare_all}
 use Rattle.all_starts.specs.GroupingRead.{grouping_read}
 use Rattle.all_starts.specs.GroupingPromise.{FaithfulAll, AllPromise, AsCompared}
 use Rattle.all_starts.specs.declared.Grouped.{Grouped}
-use Rattle.all_starts.specs.declared.AllAnswer.TheVariants.{Classes}
 
 -- ---- the grouping alone
 module _ (sheet : Sheet) (g : Grouping) (f : FaithfulAll sheet g) where
@@ -88,10 +86,10 @@ verdict_same true = ((λ e. refl), (λ e. refl))
 verdict_same false = ((λ e. absurd (same_not_diff (sym e))), (λ e. absurd (true_false {A = ⊥} true refl (sym e))))
 
 -- ---- both calls on one sheet
-module _ {l h : Limits} {bytes v before w after : List ℕ} {x : Grouped} {left right : ℕ} {v2 before2 w2 after2 : List ℕ} {answer : Answer}
-    (a : AllPromise l bytes v before w after (Classes x)) (b : CallPromise h bytes left right v2 before2 w2 after2 answer) where
+module _ {l h : Limits} {bytes v before w after : List ℕ} {x : Grouped} {left right : ℕ} {v2 before2 w2 after2 : List ℕ} {answer : Outcome Reported}
+    (a : AllPromise l bytes v before w after (reported x)) (b : CallPromise h bytes left right v2 before2 w2 after2 answer) where
   -- Where neither is refused: two starts share a class exactly when the comparing call on the two says SAME.
-  pub as_compared : (y : Reported) → answer ≡ Report y → AsCompared x after left right y
+  pub as_compared : (y : Reported) → answer ≡ reported y → AsCompared x after left right y
   unfolding read_back_lem
   as_compared y e =
       let f = (a.made x refl).faithful in
@@ -107,10 +105,10 @@ module _ {l h : Limits} {bytes v before w after : List ℕ} {x : Grouped} {left 
 
 -- the two calls themselves, from their contracts
 pub calls_as_compared : (bytes : List ℕ) (left right : ℕ) {v before w after : List ℕ} {x : Grouped} {v2 before2 w2 after2 : List ℕ} {y : Reported}
-    → ComparedAll (compare_all bytes (length v) (length before)) v before w after (Classes x)
-    → Compared (compare bytes left right (length v2) (length before2)) v2 before2 w2 after2 (Report y) → AsCompared x after left right y
+    → ComparedAll (compare_all bytes (length v) (length before)) v before w after (reported x)
+    → Compared (compare bytes left right (length v2) (length before2)) v2 before2 w2 after2 (reported y) → AsCompared x after left right y
 calls_as_compared bytes left right {v} {before} {w} {after} {x} {v2} {before2} {w2} {after2} {y} a b =
-    as_compared (all_document_promise bytes v before w after (Classes x) a) (document_promise bytes left right v2 before2 w2 after2 (Report y) b) y refl
+    as_compared (all_document_promise bytes v before w after (reported x) a) (document_promise bytes left right v2 before2 w2 after2 (reported y) b) y refl
 
 -- ---- the larger set
 module _ (sheet : Sheet) {few more : List Configuration} (part : (p : Configuration) → Memᴰ p few → Memᴰ p more) where
@@ -142,9 +140,9 @@ pair_part {left = left} {right} {sheet} c =
     there i l = get_d_in sheet.starts i (record { store = 0; threads = [] }) l
 
 -- Where all starts together are not refused, no two of them give 21, within limits that are not lower.
-pub no_large_pair : {l h : Limits} {bytes v before w after : List ℕ} {x : Grouped} {left right : ℕ} {v2 before2 w2 after2 : List ℕ} {answer : Answer} {place : ℕ}
-    → NoGreater l h → AllPromise l bytes v before w after (Classes x) → CallPromise h bytes left right v2 before2 w2 after2 answer
-    → answer ≡ Refused large_set place → ⊥
+pub no_large_pair : {l h : Limits} {bytes v before w after : List ℕ} {x : Grouped} {left right : ℕ} {v2 before2 w2 after2 : List ℕ} {answer : Outcome Reported} {place : ℕ}
+    → NoGreater l h → AllPromise l bytes v before w after (reported x) → CallPromise h bytes left right v2 before2 w2 after2 answer
+    → answer ≡ refusal large_set place → ⊥
 no_large_pair {l} {bytes = bytes} {x = x} {left} {right} {place = place} le a b e =
     let large =
     by_large_set

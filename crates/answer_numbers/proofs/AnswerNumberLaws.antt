@@ -9,20 +9,18 @@ use Rattle.answers.specs.Call.{compare_with}
 use Rattle.answers.specs.Promise.{RefusesBy, by_sheet, short_work_lem, large_set_lem, short_answer_lem}
 use Rattle.compare_call.specs.CallTheorem.{refuses_exactly}
 use Rattle.answers.specs.declared.Reported.{Reported}
-use Rattle.answers.specs.declared.Answer.{Answer}
-use Rattle.answers.specs.declared.Answer.TheVariants.{Report, Refused}
 use Rattle.answers.specs.Returned.{is_same, returned}
 use Rattle.compare_call.specs.Answered.{Answered}
 use Rattle.compare_call.specs.Compared.{Compared}
 use Rattle.answers.specs.SheetRead.{choice_reads}
 use Rattle.compare_call.specs.RefusalNumbers.{number_low}
-use Rattle.answer_numbers.specs.AnswerNumbers.{outcome_number, outcome_numbers, verdict_number, HandedBy, Handed, same_number_lem, answer_number, answer_numbers}
+use Rattle.answer_numbers.specs.AnswerNumbers.{outcome_number, outcome_numbers, verdict_number, HandedBy, Handed, same_number_lem, answer_numbers}
 
 verdict_is : (v : Verdict) → same_number_lem (is_same v) ≡ verdict_number v
 verdict_is SAME = refl
 verdict_is DIFF = refl
 
-number_is : (o : Compares) → answer_number (returned o) ≡ outcome_number o
+number_is : (o : Compares) → outcome_number (returned o) ≡ outcome_number o
 number_is (reported r) = refl
 number_is (refusal number place) = refl
 
@@ -32,12 +30,12 @@ numbers_are (reported r) =
 numbers_are (refusal number place) = refl
 
 -- the numbers of either answer
-pub report_numbers : {r : Answer} {x : Reported} {k : ℕ} → r ≡ Report x → k ≡ same_number_lem x.same
+pub report_numbers : {r : Outcome Reported} {x : Reported} {k : ℕ} → r ≡ reported x → k ≡ same_number_lem x.same
     → ◌≡◌ {A = List ℕ} (k ∷ x.round ∷ x.left ∷ x.right ∷ x.length ∷ 0 ∷ []) (answer_numbers r)
 report_numbers {r} {x} {k} e h =
     ap (λ (j : ℕ). j ∷ x.round ∷ x.left ∷ x.right ∷ x.length ∷ 0 ∷ []) h ∙ ap answer_numbers (sym e)
 
-pub refusal_numbers : {r : Answer} {number place : ℕ} → r ≡ Refused number place
+pub refusal_numbers : {r : Outcome Reported} {number place : ℕ} → r ≡ refusal number place
     → ◌≡◌ {A = List ℕ} (0 ∷ 0 ∷ 0 ∷ 0 ∷ 0 ∷ place ∷ []) (answer_numbers r)
 refusal_numbers e = ap answer_numbers (sym e)
 
@@ -55,9 +53,9 @@ answered_handed number_of_lem numbers_of c n ns is are =
     }
 
 -- the comparing call
-pub call_handed : {o : Compares} {v before w after : List ℕ} {r : Answer} {number : ℕ} {numbers : List ℕ} → Compared o v before w after r
-    → number ≡ answer_number r → numbers ≡ answer_numbers r → Handed o v before w after numbers number
-call_handed {o} c n ns = answered_handed answer_number answer_numbers c n ns (number_is o) (numbers_are o)
+pub call_handed : {o : Compares} {v before w after : List ℕ} {r : Outcome Reported} {number : ℕ} {numbers : List ℕ} → Compared o v before w after r
+    → number ≡ outcome_number r → numbers ≡ answer_numbers r → Handed o v before w after numbers number
+call_handed {o} c n ns = answered_handed outcome_number answer_numbers c n ns (number_is o) (numbers_are o)
 
 -- a number of the frame's is at least 1, where those of reading are
 pub refuses_above : {Is : Sheet → Type 0} {Not : ℕ → ℕ → Type 0} {l : Limits} {seeds : Sheet → List Configuration} {needed : Sheet → ℕ} {work answer number place : ℕ}

@@ -2,8 +2,7 @@
 use Rattle.std.specs.Prelude.{◌≡◌, Bool, true, false, List, [], ◌∷◌, ℕ}
 use Rattle.answers.specs.Report.{Verdict, SAME, DIFF, report_bytes, report_length, Compares}
 use Rattle.answers.specs.Outcome.{Outcome, reported, refusal, written_after, work_after}
-use Rattle.answers.specs.declared.Answer.{Answer}
-use Rattle.answers.specs.declared.Answer.TheVariants.{Report, Refused}
+use Rattle.answers.specs.declared.Reported.{Reported}
 
 -- 0 for what a call gives, else the refusal's number, which is never 0 (`refusal_above`)
 abbrev pub outcome_number : {A : Type 0} → Outcome A → ℕ
@@ -37,10 +36,6 @@ abbrev pub same_number_lem : Bool → ℕ
 same_number_lem true = 0
 same_number_lem false = 1
 
-abbrev pub answer_number : Answer → ℕ
-answer_number (Report x) = 0
-answer_number (Refused number place) = number
-
-abbrev pub answer_numbers : Answer → List ℕ
-answer_numbers (Report x) = same_number_lem x.same ∷ x.round ∷ x.left ∷ x.right ∷ x.length ∷ 0 ∷ []
-answer_numbers (Refused number place) = 0 ∷ 0 ∷ 0 ∷ 0 ∷ 0 ∷ place ∷ []
+abbrev pub answer_numbers : Outcome Reported → List ℕ
+answer_numbers (reported x) = same_number_lem x.same ∷ x.round ∷ x.left ∷ x.right ∷ x.length ∷ 0 ∷ []
+answer_numbers (refusal number place) = 0 ∷ 0 ∷ 0 ∷ 0 ∷ 0 ∷ place ∷ []

@@ -1,3 +1,4 @@
+pub use Rattle.answers.specs.OutcomeOf
 pub use Rattle.answers.specs.Call
 pub use Rattle.answers.specs.CallLimits
 pub use Rattle.answers.specs.Classes

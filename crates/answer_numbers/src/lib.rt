@@ -1,10 +1,12 @@
-// The answer of the comparing call as numbers, for callers in C and Rust.
+// The answers of calls as numbers, for callers in C and Rust.
 #![tactic(auto)]
 
 ghost use Rattle.std.specs.Prelude.{◌≡◌};
-ghost use Rattle.answer_numbers.specs.AnswerNumbers.{answer_number, answer_numbers, same_number_lem};
+ghost use Rattle.answers.specs.OutcomeOf.{outcome_of};
+ghost use Rattle.answer_numbers.specs.AnswerNumbers.{same_number_lem, outcome_number, answer_numbers};
 
-use answers::Answer;
+use answers::Reported;
+use refusals::Refused;
 
 // 0 for SAME, 1 for DIFF.
 fn verdict_number(same: bool) -> usize
@@ -13,22 +15,22 @@ fn verdict_number(same: bool) -> usize
     if same { 0 } else { 1 }
 }
 
-// 0 for a report, else the refusal's number.
-pub fn answer_number(r: Answer) -> u32
-    ensures { result ≡ answer_number r }
+// 0 for what any call gives, else the refusal's number.
+pub fn outcome_number<T: Copy>(r: Result<T, Refused>) -> u32
+    ensures { result ≡ outcome_number (outcome_of r) }
 {
     match r {
-        Answer::Report(_) => 0,
-        Answer::Refused(number, _) => number as u32,
+        Ok(_) => 0,
+        Err(refused) => u32::from(u8::from(refused.refusal)),
     }
 }
 
 // Verdict, round, the places of both starts, the report's length, the refusal's place; 0 for what does not apply.
-pub fn answer_numbers(r: Answer) -> [usize; 6]
-    ensures { result ≡ answer_numbers r }
+pub fn answer_numbers(r: Result<Reported, Refused>) -> [usize; 6]
+    ensures { result ≡ answer_numbers (outcome_of r) }
 {
     match r {
-        Answer::Report(x) => [
+        Ok(x) => [
             verdict_number(x.same),
             x.round,
             x.left,
@@ -36,6 +38,6 @@ pub fn answer_numbers(r: Answer) -> [usize; 6]
             x.length,
             0,
         ],
-        Answer::Refused(_, place) => [0, 0, 0, 0, 0, place],
+        Err(refused) => [0, 0, 0, 0, 0, refused.place],
     }
 }

@@ -23,5 +23,6 @@ pub use Rattle.comparison.specs.SheetTransitions
 pub use Rattle.comparison.specs.Stores
 pub use Rattle.comparison.specs.Trail
 pub use Rattle.comparison.specs.WellFormed
+pub mod OutcomeOf
 pub mod Returned
 pub mod ReadBack

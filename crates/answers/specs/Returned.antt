@@ -2,10 +2,8 @@
 use Rattle.std.specs.Prelude.{Bool, true, false}
 use Rattle.comparison.specs.Report as spec
 use Rattle.comparison.specs.Report.{Verdict, SAME, DIFF, report_length, Compares}
-use Rattle.comparison.specs.Outcome.{reported, refusal}
+use Rattle.comparison.specs.Outcome.{reported, refusal, Outcome}
 use Rattle.answers.specs.declared.Reported.{Reported}
-use Rattle.answers.specs.declared.Answer.{Answer}
-use Rattle.answers.specs.declared.Answer.TheVariants.{Report, Refused}
 
 -- whether a verdict is SAME
 abbrev pub is_same : Verdict → Bool
@@ -18,6 +16,6 @@ returned_of r =
     record { same = is_same r.verdict; round = r.round; left = r.left_place; right = r.right_place; length = report_length r }
 
 -- what the call returns of an outcome
-abbrev pub returned : Compares → Answer
-returned (reported r) = Report (returned_of r)
-returned (refusal number place) = Refused number place
+abbrev pub returned : Compares → Outcome Reported
+returned (reported r) = reported (returned_of r)
+returned (refusal number place) = refusal number place

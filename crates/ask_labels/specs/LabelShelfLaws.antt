@@ -8,7 +8,7 @@ use Rattle.std.proofs.Math.Dec.{eqb}
 use borrow.Author.Tests.{eqb-true, eqb-false}
 use Rattle.ask_labels.specs.declared.Shelf.{Shelf}
 use Rattle.ask_labels.specs.declared.Labelled.{Labelled}
-use Rattle.label_tests.specs.FactsOutside.{outside}
+use Rattle.label_search.specs.FactsOutside.{outside}
 use Rattle.label_search.specs.LabelOrder.{labels_missing}
 use Rattle.work_layout.specs.Frames.{SameOutside, outside_same, outside_again, outside_wider, outside_set}
 use Rattle.label_search.specs.AskLabels.{LabelsAre, part}

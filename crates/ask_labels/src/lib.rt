@@ -1,21 +1,20 @@
 // The labels of an ask, worked out once for each store and what it lacks of the asked set.
 #![tactic(auto)]
 
-ghost use Rattle.std.specs.Prelude.{◌≡◌, cond, ◌+◌, ◌-◌, ◌/◌, ◌≤◌, ◌<◌, ◌^◌, length, eqb};
-ghost use Rattle.label_tests.specs.FactsOutside.{outside};
+ghost use Rattle.std.specs.Prelude.{◌≡◌, cond, ◌+◌, ◌-◌, ◌/◌, ◌≤◌, ◌<◌, ◌^◌, length, eqb, IfSome};
+ghost use Rattle.label_search.specs.FactsOutside.{outside};
 ghost use Rattle.ask_labels.specs.LabelShelf.{max_sets, no_entries, asked_of, put_entry, Shelved, HasRoom, ShelfRoom, LabelsGiven};
 ghost use Rattle.work_layout.specs.WorkLayout.{lists_at, lists_end};
 ghost use Rattle.closure_table.specs.SheetLimits.{max_facts};
 
 use closure_table::sets_of;
 use label_search::labels_from;
-use label_tests::number_at;
 use work_layout::{HEADS, LISTS, LISTS_END};
 
 const MAX_SETS: usize = 64;
 
 // How many asked sets have an entry, and how many numbers their labels take together.
-#[derive(Drop)]
+#[derive(Default, Drop)]
 pub struct Shelf {
     pub sets: usize,
     pub used: usize,
@@ -36,22 +35,20 @@ pub fn shelf_for(shelf: Shelf, store: u32, other: u32) -> Shelf
     if store == other {
         return shelf;
     }
-    Shelf { sets: 0, used: 0 }
+    Shelf::default()
 }
 
-// The first of n entries that is for c, or n.
-fn entry_of(work: &[u32], n: usize, c: u16) -> usize
+// The first of n entries that is for c.
+fn entry_of(work: &[u32], n: usize, c: u16) -> Option<usize>
     requires { (n ≤ max_sets) × (lists_at ≤ length work.now) }
-    ensures { (result ≤ n) × (result < n → asked_of work.now result ≡ c) }
+    ensures { IfSome result (λ i. (i < n) × (asked_of work.now i ≡ c)) }
 {
-    let mut i: usize = 0;
-    while i < n {
+    for i in 0..n {
         if work[HEADS + 3 * i] == c as u32 {
-            return i;
+            return Some(i);
         }
-        i += 1;
     }
-    n
+    None
 }
 
 // A shelf with room for an entry more: this one, or, where it is full, one with no entries.
@@ -60,12 +57,10 @@ fn with_room(facts: u16, shelf: Shelf) -> Shelf
     ensures { HasRoom facts shelf result }
 {
     let most = sets_of(facts) / 2 + 2;
-    let sets = shelf.sets;
-    let used = shelf.used;
-    if sets < MAX_SETS && used + most <= LISTS_END - LISTS {
+    if shelf.sets < MAX_SETS && shelf.used + most <= LISTS_END - LISTS {
         return shelf;
     }
-    Shelf { sets: 0, used: 0 }
+    Shelf::default()
 }
 
 // Puts entry i in its place.
@@ -85,19 +80,17 @@ fn add_labels(work: &mut [u32], facts: u16, d: u16, c: u16, shelf: Shelf) -> Lab
         × (shelf.used + (2 ^ facts / 2 + 2) ≤ lists_end - lists_at) }
     ensures { LabelsGiven work.old facts d c result work.new }
 {
-    let sets = shelf.sets;
-    let used = shelf.used;
-    let first = LISTS + used;
+    let first = LISTS + shelf.used;
     let n = labels_from(work, facts, d, c, first);
-    put_entry(work, sets, c, first, first + n);
-    let grown = Shelf {
-        sets: sets + 1,
-        used: used + n,
-    };
+    let end = first + n;
+    put_entry(work, shelf.sets, c, first, end);
     Labelled {
-        first: first,
-        end: first + n,
-        shelf: grown,
+        first,
+        end,
+        shelf: Shelf {
+            sets: shelf.sets + 1,
+            used: shelf.used + n,
+        },
     }
 }
 
@@ -114,18 +107,13 @@ pub fn labels_at(work: &mut [u32], facts: u16, d: u16, c: u16, shelf: Shelf) -> 
     ensures { LabelsGiven work.old facts d c result work.new }
 {
     let lacking = missing(d, c);
-    let sets = shelf.sets;
-    let i = entry_of(work, sets, lacking);
-    if i < sets {
+    if let Some(i) = entry_of(work, shelf.sets, lacking) {
         let at = HEADS + 3 * i;
-        let first = number_at(work, at + 1);
-        let end = number_at(work, at + 2);
         return Labelled {
-            first: first,
-            end: end,
-            shelf: shelf,
+            first: work[at + 1] as usize,
+            end: work[at + 2] as usize,
+            shelf,
         };
     }
-    let roomy = with_room(facts, shelf);
-    add_labels(work, facts, d, lacking, roomy)
+    add_labels(work, facts, d, lacking, with_room(facts, shelf))
 }

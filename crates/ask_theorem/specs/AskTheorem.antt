@@ -19,14 +19,13 @@ use Rattle.comparison_laws.specs.Moves.{count_up, labels}
 use Rattle.comparison_laws.specs.LabelLaws.{label_constraint, label_makes_true, label_minimal, label_below, labels_ascend}
 use Rattle.search_laws.specs.OrderedSearch.{label_search}
 use Rattle.search_laws.specs.SearchLaws.{search_tried}
-use Rattle.comparison_laws.specs.Outcome.{reported, refusal}
+use Rattle.comparison_laws.specs.Outcome.{reported, refusal, Outcome}
 use Rattle.comparison_laws.specs.Frame.{with_room, with_sheet}
 use Rattle.comparison_laws.specs.RoomLaws.{room_short, room_given}
 use Rattle.comparison_laws.specs.FrameTheorem.{Decides, gives_report, gives_refusal}
 use Rattle.asked_labels.specs.AskedLabels.{AskedLabels, asked_on, Asks, with_facts, ask_labels, labels_after, labels_returned}
 use Rattle.asked_labels.specs.AskPromise.{IsLabel, FaithfulLabels, RefusesAsk, by_sheet, by_store, by_asked, by_room, AskPromise}
-use Rattle.asked_labels.specs.declared.LabelsAnswer.{LabelsAnswer}
-use Rattle.asked_labels.specs.declared.LabelsAnswer.TheVariants.{Labels, Refused}
+use Rattle.asked_labels.specs.declared.LabelsFound.{LabelsFound}
 
 -- ---- the labels of a sheet
 module _ (sheet : Sheet) (d c : ℕ) where
@@ -183,13 +182,13 @@ ask_kept bytes store asked before = go (ask_decides bytes store asked (length be
         }
 
 -- The promise fixes what the call returns and what it leaves in the slice.
-pub ask_alone : (bytes : List ℕ) (store asked : ℕ) (before after : List ℕ) (answer : LabelsAnswer)
+pub ask_alone : (bytes : List ℕ) (store asked : ℕ) (before after : List ℕ) (answer : Outcome LabelsFound)
     → AskPromise bytes store asked before after answer
     → let o = ask_labels bytes store asked (length before) in (answer ≡ labels_returned o) × (after ≡ labels_after o before)
-ask_alone bytes store asked before after (Refused number place) (x, same) =
+ask_alone bytes store asked before after (refusal number place) (x, same) =
     let e = refuses_call bytes store asked (length before) x in
     (ap labels_returned (sym e), same ∙ ap (λ (o : Asks). labels_after o before) (sym e))
-ask_alone bytes store asked before after (Labels x) p =
+ask_alone bytes store asked before after (reported x) p =
     let a = asked_on p.sheet store asked in
     let listed : take x.count after ≡ a.listed =
     faithful_listed p.sheet (closure p.sheet.rules store) (closure p.sheet.rules asked) p.faithful (asked_faithful p.sheet store asked) in
@@ -198,7 +197,7 @@ ask_alone bytes store asked before after (Labels x) p =
     let count : x.count ≡ length a.listed = sym p.counted ∙ ap length listed in
     let e : ask_labels bytes store asked (length before) ≡ reported a =
     gives_call bytes store asked (length before) p.sheet p.is p.facts.0 p.facts.1 (omega (arith, count, p.fits)) in
-    let returned : Labels x ≡ labels_returned (reported a) = ap₂ (λ (n k : ℕ). Labels (record { count = n; tried = k })) count tried in
+    let returned : reported x ≡ labels_returned (reported a) = ap₂ (λ (n k : ℕ). reported (record { count = n; tried = k })) count tried in
     let left : after ≡ labels_after (reported a) before =
     sym (take-append-drop x.count after)
     ∙ ap₂ (λ (l r : List ℕ). l ++ r) listed (p.behind ∙ ap (λ (n : ℕ). drop n before) count) in

@@ -1,5 +1,6 @@
 -- The promise of the call for the labels of an ask (document 02, card 5): when it refuses, and what it gives, in terms of the constraints
 -- of the sheet; of what is returned and of what stands in the slice afterwards.
+use Rattle.comparison.specs.Outcome.{Outcome, refusal, reported}
 use Rattle.std.specs.Prelude.{◌≡◌, ◌↔◌, not, ℕ, ◌^◌, ◌≤◌, ◌<◌, length, take, drop, ltb}
 use mathlib.Core.List.{List, ◌++◌, Memᴰ}
 use Rattle.comparison.specs.Lists.{select, any, Ascends}
@@ -11,8 +12,6 @@ use Rattle.comparison.specs.SheetBytes.{SheetIs, SheetRefused}
 use Rattle.comparison.specs.Moves.{count_up}
 use Rattle.asked_labels.specs.AskedLabels.{asked_on}
 use Rattle.asked_labels.specs.declared.LabelsFound.{LabelsFound}
-use Rattle.asked_labels.specs.declared.LabelsAnswer.{LabelsAnswer}
-use Rattle.asked_labels.specs.declared.LabelsAnswer.TheVariants.{Labels, Refused}
 
 -- a is a minimal constraint that makes c true at store d
 pub record IsLabel (sheet : Sheet) (d c a : ℕ) : Type 0 where
@@ -50,7 +49,7 @@ pub record LabelsPromise (bytes : List ℕ) (store asked : ℕ) (before after : 
   pub behind : drop x.count after ≡ drop x.count before
 
 -- The slice `before` became `after`, and `answer` was returned: each refusal under its condition and no other, and otherwise the labels.
-abbrev pub AskPromise : List ℕ → ℕ → ℕ → List ℕ → List ℕ → LabelsAnswer → Type 0
-AskPromise bytes store asked before after (Labels x) = LabelsPromise bytes store asked before after x
-AskPromise bytes store asked before after (Refused number place) =
+abbrev pub AskPromise : List ℕ → ℕ → ℕ → List ℕ → List ℕ → Outcome LabelsFound → Type 0
+AskPromise bytes store asked before after (reported x) = LabelsPromise bytes store asked before after x
+AskPromise bytes store asked before after (refusal number place) =
     RefusesAsk bytes store asked (length before) number place × (after ≡ before)

@@ -10,8 +10,6 @@ use Rattle.ordered_search.specs.OrderedSearch.{label_search}
 use Rattle.comparison.specs.Outcome.{Outcome, reported, refusal, written_after}
 use Rattle.comparison.specs.Frame.{with_room, with_sheet}
 use Rattle.asked_labels.specs.declared.LabelsFound.{LabelsFound}
-use Rattle.asked_labels.specs.declared.LabelsAnswer.{LabelsAnswer}
-use Rattle.asked_labels.specs.declared.LabelsAnswer.TheVariants.{Labels, Refused}
 
 -- The labels in ascending order, and the number of sets that were not skipped.
 pub record AskedLabels : Type 0 where
@@ -48,6 +46,6 @@ abbrev pub labels_after : Asks → List ℕ → List ℕ
 labels_after = written_after (λ a. a.listed)
 
 -- what is returned
-abbrev pub labels_returned : Asks → LabelsAnswer
-labels_returned (reported a) = Labels (record { count = length a.listed; tried = a.tried })
-labels_returned (refusal number place) = Refused number place
+abbrev pub labels_returned : Asks → Outcome LabelsFound
+labels_returned (reported a) = reported (record { count = length a.listed; tried = a.tried })
+labels_returned (refusal number place) = refusal number place

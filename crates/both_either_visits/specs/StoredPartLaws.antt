@@ -20,8 +20,7 @@ use Rattle.nodes_to_visit.specs.NodesToVisit.{PendingPacked, Entered}
 use Rattle.nodes_to_visit.specs.NodesToVisitLaws.{weight, weight_none, weight_append, weight_next, weight_parts}
 use Rattle.walk_state.specs.declared.Basis.{Basis}
 use Rattle.walk_state.specs.declared.Walk.{Walk}
-use Rattle.walk_state.specs.declared.Walked.{Walked}
-use Rattle.walk_state.specs.declared.Walked.TheVariants.{On, Over}
+use Rattle.std.specs.Prelude.{Option, Some, None}
 use Rattle.walk_state.specs.WalkState.{NodesOf, VisitFits, Walking, Covering, OnSheet, TurnOn, TurnOver}
 use Rattle.walk_state.specs.PushedInWalk.{threads_joined, topped, NodesAdded, added_none, entered_added, entered_few, entered_long, entered_packed, entered_walking, added_again, GiveSame, given_of_one, give_same_refl, parts_give, added_turn}
 use Rattle.sheet_types.specs.NodeTable.{opened_of, movables_of}
@@ -212,7 +211,7 @@ module _ {rank : ℕ → ℕ} (table : List ℕ) (p q : ℕ) (b : Basis) (v : Li
       }
 
   first_over : (w : List ℕ) → PartTooLong (get_or (movables_of table) p 0) (beside_of p (opened_in (opened_of table) q) e) b.caps.threads v w
-      → BothTurned rank table p q b v s e w Over
+      → BothTurned rank table p q b v s e w None
   first_over w a = record {
     turned = λ nodes of is kp kq.
         part_over nodes of p q hp.inside kp kq
@@ -221,16 +220,16 @@ module _ {rank : ℕ → ℕ} (table : List ℕ) (p q : ℕ) (b : Basis) (v : Li
         (outside_same (moves_at + b.first) work_end v) a;
   }
 
-  pub both_first_over : (w : List ℕ) (answer : Walked) → answer ≡ Over
+  pub both_first_over : (w : List ℕ) (answer : Option Walk) → answer ≡ None
       → PartAs rank (get_or (movables_of table) p 0) (beside_of p (opened_in (opened_of table) q) e) b.caps.threads (rank e.node) v s w answer
-      → BothTurned rank table p q b v s e w Over
+      → BothTurned rank table p q b v s e w None
   both_first_over w answer told a =
       first_over w (subst (PartAs rank (get_or (movables_of table) p 0) (beside_of p (opened_in (opened_of table) q) e) b.caps.threads (rank e.node) v s w) told a)
 
   -- the first part is stored or passed over, and then the second
-  module _ (u : List ℕ) (r : Walk) (answer : Walked) (told : answer ≡ On r)
+  module _ (u : List ℕ) (r : Walk) (answer : Option Walk) (told : answer ≡ Some r)
       (a : PartAs rank (get_or (movables_of table) p 0) (beside_of p (opened_in (opened_of table) q) e) b.caps.threads (rank e.node) v s u answer) where
-    first : PartAs rank (get_or (movables_of table) p 0) (beside_of p (opened_in (opened_of table) q) e) b.caps.threads (rank e.node) v s u (On r)
+    first : PartAs rank (get_or (movables_of table) p 0) (beside_of p (opened_in (opened_of table) q) e) b.caps.threads (rank e.node) v s u (Some r)
     first = subst (PartAs rank (get_or (movables_of table) p 0) (beside_of p (opened_in (opened_of table) q) e) b.caps.threads (rank e.node) v s u) told a
 
     -- there is room for the second
@@ -247,21 +246,21 @@ module _ {rank : ℕ → ℕ} (table : List ℕ) (p q : ℕ) (b : Basis) (v : Li
     first_added nodes of kp kq =
         part_added nodes b of (beside nodes p q) hp.inside (get_or (movables_of table) p 0) kp.mark k
         (beside_fits nodes of p q hp.inside hq.inside) hp.lower (omega arith)
-        (subst (λ (x : NodeBeside). PartAs rank (get_or (movables_of table) p 0) x b.caps.threads (rank e.node) v s u (On r)) (beside_is nodes p q kq.opens) first)
+        (subst (λ (x : NodeBeside). PartAs rank (get_or (movables_of table) p 0) x b.caps.threads (rank e.node) v s u (Some r)) (beside_is nodes p q kq.opens) first)
 
-    pub both_then : (w : List ℕ) (t : Walked)
+    pub both_then : (w : List ℕ) (t : Option Walk)
         → PartAs rank (get_or (movables_of table) q 0) (beside_of q (opened_in (opened_of table) p) e) b.caps.threads (rank e.node) u r w t
         → BothTurned rank table p q b v s e w t
-    both_then w (On t) x = record {
+    both_then w (Some t) x = record {
       turned = λ nodes of is kp kq.
           let f = first_added nodes of kp kq in
           parts_turn nodes b e (beside nodes p q) (beside nodes q p) k hp.lower hq.lower (both_moves nodes of is) f
           (part_added nodes b of (beside nodes q p) hq.inside (get_or (movables_of table) q 0) kq.mark f.walking
           (beside_fits nodes of q p hq.inside hp.inside) hq.lower
           (omega (arith, f.top))
-          (subst (λ (y : NodeBeside). PartAs rank (get_or (movables_of table) q 0) y b.caps.threads (rank e.node) u r w (On t)) (beside_is nodes q p kp.opens) x));
+          (subst (λ (y : NodeBeside). PartAs rank (get_or (movables_of table) q 0) y b.caps.threads (rank e.node) u r w (Some t)) (beside_is nodes q p kp.opens) x));
     }
-    both_then w Over x = record {
+    both_then w None x = record {
       turned = λ nodes of is kp kq.
           part_over nodes of q p hq.inside kq kp
           (λ sheet n m i.

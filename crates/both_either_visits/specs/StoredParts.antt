@@ -1,4 +1,5 @@
 -- What storing the parts of a node that is made of two gives.
+use Rattle.std.specs.Prelude.{Option}
 use Rattle.std.specs.Prelude.{◌≡◌, cond, List, [], ◌∷◌, ℕ, get_or}
 use Rattle.sheet_types.specs.Sheet.{Node, both, either, node_of, opened}
 use Rattle.sheet_types.specs.NodeTable.{opened_of, movables_of}
@@ -6,7 +7,6 @@ use Rattle.sheet_types.specs.HeldSheet.{opened_in}
 use Rattle.threads_beside.specs.NodeMoves.{NodeBeside, movable}
 use Rattle.walk_state.specs.declared.Basis.{Basis}
 use Rattle.walk_state.specs.declared.Walk.{Walk}
-use Rattle.walk_state.specs.declared.Walked.{Walked}
 use Rattle.walk_state.specs.WalkState.{NodesOf, VisitFits, Walking, TurnOn, Turned}
 
 -- the table has the threads of node k and its mark
@@ -16,7 +16,7 @@ pub record NodeKnown (nodes : List Node) (table : List ℕ) (k : ℕ) : Type 0 w
 
 -- the node of e is a both of p and q, on whatever sheet whose threads and marks the table has: then the turn is as it should be
 pub record BothTurned (rank : ℕ → ℕ) (table : List ℕ) (p q : ℕ) (b : Basis) (v : List ℕ) (s : Walk) (e : NodeBeside)
-    (w : List ℕ) (r : Walked) : Type 0 where
+    (w : List ℕ) (r : Option Walk) : Type 0 where
   pub turned : (nodes : List Node) → NodesOf rank b nodes → node_of nodes e.node ≡ both p q
       → NodeKnown nodes table p → NodeKnown nodes table q → Turned rank nodes b v s (e ∷ []) w r
 

@@ -14,7 +14,7 @@ ghost use Rattle.sheet_types.specs.SheetLimits.{max_nodes};
 use part_entry::push_beside;
 use sheet_types::TABLE_END;
 use threads_beside::NodeBeside;
-use walk_state::{Basis, Walk, Walked};
+use walk_state::{Basis, Walk};
 
 // A both: each part is to be visited with the other opened beside it.
 pub fn visit_both(
@@ -25,16 +25,13 @@ pub fn visit_both(
     b: Basis,
     e: NodeBeside,
     s: Walk,
-) -> Walked
+) -> Option<Walk>
     requires { Walking rank_of work.old b s × VisitFits b (node_beside e) × (e.count ≤ 8) × Part rank_of b.nodes e.node p
         × Part rank_of b.nodes e.node q × (rank_of e.node + s.top < 64) × (b.nodes ≤ max_nodes)
         × (get_or (opened_of table.now).counts p 0 ≤ 8) × (get_or (opened_of table.now).counts q 0 ≤ 8) }
     ensures { BothTurned rank_of table.now p q b work.old s (node_beside e) work.new result }
 {
-    let r = push_beside(work, table, p, q, b, e, s);
-    let Walked::On(t) = r else {
-        return Walked::Over;
-    };
+    let t = push_beside(work, table, p, q, b, e, s)?;
     push_beside(work, table, q, p, b, e, t)
 }
 

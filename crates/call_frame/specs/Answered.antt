@@ -1,6 +1,6 @@
 -- What a call that works out a set returns, and what it leaves in both slices; from its beginning, and what it makes of the set, to its
 -- outcome.
-use Rattle.std.specs.Prelude.{◌≡◌, refl, Bool, true, false, cond, List, ◌++◌, ℕ, length, replicate, ltb}
+use Rattle.std.specs.Prelude.{◌≡◌, refl, Bool, true, false, cond, List, ◌++◌, ℕ, length, replicate, ltb, Result, Err}
 use Rattle.std.proofs.Common.{sym, ap, ◌∙◌}
 use Rattle.work_layout.specs.Frames.{SameOutside, outside_again, outside_drop}
 use Rattle.sheet_types.specs.Refusals.{short_answer}
@@ -11,8 +11,9 @@ use Rattle.work_layout.specs.Set.{explored}
 use Rattle.work_layout.specs.Outcome.{Outcome, reported, refusal, written_after, cleared, work_after}
 use Rattle.work_layout.specs.Frame.{with_room}
 use Rattle.work_layout.specs.WorkLayout.{work_end}
-use Rattle.call_frame.specs.declared.Begun.{Begun}
-use Rattle.call_frame.specs.declared.Begun.TheVariants.{Refused}
+use Rattle.refusals.specs.Numbers.{number}
+use Rattle.refusals.specs.declared.Refused.{Refused}
+use Rattle.found_set.specs.declared.SetSize.{SetSize}
 use Rattle.call_frame.specs.Begun.{SetBegun}
 use Rattle.call_frame.specs.BegunLaws.{Read, framed, begun_refused, GoesOn}
 
@@ -43,8 +44,8 @@ module _ {A R : Type 0} (written : A → List ℕ) (returned : Outcome A → R) 
 
   module _ {v before w : List ℕ} where
     -- refused before anything is done with a set: the answer slice is left as it is
-    pub answered_refused : {b : Begun} {number place : ℕ} → SetBegun reading l seeds v w b → b ≡ Refused number place
-        → Answered written returned (answered (length v) (length before)) v before w before (returned (refusal number place))
+    pub answered_refused : {b : Result SetSize Refused} {e : Refused} → SetBegun reading l seeds v w b → b ≡ Err e
+        → Answered written returned (answered (length v) (length before)) v before w before (returned (refusal (number e.refusal) e.place))
     answered_refused x e =
         let y = begun_refused (made_on (length before)) known l seeds x e in
         record {

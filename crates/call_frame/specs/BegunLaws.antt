@@ -1,6 +1,6 @@
 -- What follows of a call's beginning: its outcome where it is refused, whatever it would have done with the set, and what it goes
 -- on with where it is not.
-use Rattle.std.specs.Prelude.{◌≡◌, refl, Bool, true, false, cond, ◌||◌, List, ◌++◌, ℕ, ◌≤◌, ◌<◌, length, get_or, replicate, ltb}
+use Rattle.std.specs.Prelude.{◌≡◌, refl, Bool, true, false, cond, ◌||◌, List, ◌++◌, ℕ, ◌≤◌, ◌<◌, length, get_or, replicate, ltb, Result, Ok, Err, IfOk}
 use Rattle.std.proofs.Common.{sym, ap, ap₂, ◌∙◌, subst, arith, lt-ltb, le-ltb, ne_eqb}
 use Rattle.work_layout.specs.Frames.{outside_drop}
 use Rattle.collected_moves.specs.Tabulate.{tabulate_length, tabulate_at}
@@ -27,11 +27,12 @@ use Rattle.found_set.specs.FoundSet.{SetWhole, SetPasses}
 use Rattle.work_layout.specs.Promise.{starts_of}
 use Rattle.call_seeds.specs.Choice.{seeds_from, SeedsAre}
 use Rattle.call_seeds.specs.ChoiceLaws.{first_choice}
-use Rattle.call_frame.specs.declared.Begun.{Begun}
-use Rattle.call_frame.specs.declared.Begun.TheVariants.{Set, Refused}
+use Rattle.refusals.specs.Numbers.{number}
+use Rattle.refusals.specs.declared.Refused.{Refused}
+use Rattle.found_set.specs.declared.SetSize.{SetSize}
 use Rattle.call_frame.specs.declared.Started.{Started}
 use Rattle.call_frame.specs.declared.AllStarted.{AllStarted}
-use Rattle.call_frame.specs.Begun.{BegunSet, BegunRefused, too_short, too_large, BegunAs, SetBegun, by_sheet, by_set, StartsListed, SeedsBegun, ReadBegun, ChoiceSet, StartsAre, PairBegun, AllBegun}
+use Rattle.call_frame.specs.Begun.{BegunSet, BegunRefused, too_short, too_large, BegunAs, SetBegun, by_sheet, by_set, StartsListed, all_size, SeedsBegun, ReadBegun, ChoiceSet, StartsAre, pair_size, PairBegun, AllBegun}
 
 -- ---- how a call begins
 -- a set that passes a limit, and the work slice cleared
@@ -42,35 +43,43 @@ begun_large {v = v} {w} {z} h x e =
 
 -- ---- a refusal of the reader, and a sheet that was read
 module _ (l : Limits) (bytes : List ℕ) (left right : ℕ) (all : Bool) (v : List ℕ) where
-  pub read_refused : {number place : ℕ} (starts : List Configuration) (count : ℕ) → read_choice bytes left right ≡ refused number place
-      → ReadBegun l bytes left right all v v (record { begun = Refused number place; starts = starts; count = count })
-  read_refused starts count e = record { begun = by_sheet e refl; starts = λ sheet end f. absurd (got_not_refused (sym f ∙ e)) }
+  pub read_refused : {e : Refused} → read_choice bytes left right ≡ refused (number e.refusal) e.place → ReadBegun l bytes left right all v v (Err e)
+  read_refused e = record { begun = by_sheet e refl; starts = λ sheet end f. tt }
 
-  pub read_begun : {sheet : spec.Sheet} {end : ℕ} {w : List ℕ} {r : AllStarted} → read_choice bytes left right ≡ got sheet end
+  pub read_begun : {sheet : spec.Sheet} {end : ℕ} {w : List ℕ} {r : Result AllStarted Refused} → read_choice bytes left right ≡ got sheet end
       → SeedsBegun l sheet (seeds_from all left right sheet) v w r → ReadBegun l bytes left right all v w r
   read_begun {sheet} {end} {w} {r} e x =
       record {
         begun = by_set sheet end e x.begun;
-        starts = λ other at f. subst (λ (s : spec.Sheet). StartsListed (seeds_from all left right s) r) (same_sheet (sym e ∙ f)) x.starts;
+        starts = λ other at f. subst (λ (s : spec.Sheet). IfOk r (StartsListed (seeds_from all left right s))) (same_sheet (sym e ∙ f)) x.starts;
       }
 
 -- the seeds of a sheet that is held
-pub seeds_begun : {l : Limits} (sheet : Sheet) {ps : List spec.Configuration} {v w : List ℕ} {r : Begun} (seeds : List Configuration) (k : ℕ)
-    → SeedsAre sheet ps seeds k → BegunAs l (sheet_of sheet) (starts_in seeds k) v w r
-    → SeedsBegun l (sheet_of sheet) ps v w (record { begun = r; starts = seeds; count = k })
-seeds_begun {l} sheet {v = v} {w} {r} seeds k are x =
+pub seeds_refused : {l : Limits} (sheet : Sheet) {ps : List spec.Configuration} {v w : List ℕ} {e : Refused} (seeds : List Configuration) (k : ℕ)
+    → SeedsAre sheet ps seeds k → BegunAs l (sheet_of sheet) (starts_in seeds k) v w (Err e) → SeedsBegun l (sheet_of sheet) ps v w (Err e)
+seeds_refused {l} sheet {v = v} {w} {e} seeds k are x =
+    record { begun = subst (λ (ps : List spec.Configuration). BegunAs l (sheet_of sheet) ps v w (Err e)) are.listed x; starts = tt }
+
+pub seeds_begun : {l : Limits} (sheet : Sheet) {ps : List spec.Configuration} {v w : List ℕ} {size : SetSize} (seeds : List Configuration) (k : ℕ)
+    → SeedsAre sheet ps seeds k → BegunAs l (sheet_of sheet) (starts_in seeds k) v w (Ok size)
+    → SeedsBegun l (sheet_of sheet) ps v w (Ok (record { size = size; starts = seeds; count = k }))
+seeds_begun {l} sheet {v = v} {w} {size} seeds k are x =
     record {
-      begun = subst (λ (ps : List spec.Configuration). BegunAs l (sheet_of sheet) ps v w r) are.listed x;
+      begun = subst (λ (ps : List spec.Configuration). BegunAs l (sheet_of sheet) ps v w (Ok size)) are.listed x;
       starts = record { listed = are.listed; held = are.held; few = are.fit.few; threads = record { at = are.fit.threads } };
     }
 
 -- two starts are the first two seeds
-pub pair_begun : {l : Limits} {bytes : List ℕ} {left right : ℕ} {v w : List ℕ} {s : AllStarted} (r : Started) → ReadBegun l bytes left right false v w s
-    → r.begun ≡ s.begun → (d : Configuration) → r.left ≡ get_or s.starts 0 d → r.right ≡ get_or s.starts 1 d
-    → PairBegun l bytes left right v w r
+pub pair_refused : {l : Limits} {bytes : List ℕ} {left right : ℕ} {v w : List ℕ} {e : Refused} → ReadBegun l bytes left right false v w (Err e)
+    → PairBegun l bytes left right v w (Err e)
+pair_refused x = record { begun = x.begun; starts = λ sheet end f. tt }
+
+pub pair_begun : {l : Limits} {bytes : List ℕ} {left right : ℕ} {v w : List ℕ} {s : AllStarted} (r : Started) → ReadBegun l bytes left right false v w (Ok s)
+    → r.size ≡ s.size → (d : Configuration) → r.left ≡ get_or s.starts 0 d → r.right ≡ get_or s.starts 1 d
+    → PairBegun l bytes left right v w (Ok r)
 pair_begun {l} {bytes} {left} {right} {v} {w} {s} r x e d dl dr =
     record {
-      begun = subst (ChoiceSet l bytes left right v w) (sym e) x.begun;
+      begun = subst (λ (size : SetSize). ChoiceSet l bytes left right v w (Ok size)) (sym e) x.begun;
       starts = λ sheet end f. are sheet (x.starts sheet end f);
     }
   where
@@ -90,20 +99,20 @@ pair_begun {l} {bytes} {left} {right} {v} {w} {s} r x e d dl dr =
         }
 
 -- all starts are the seeds where no choice is made
-pub all_begun : {l : Limits} {bytes v w : List ℕ} {r : AllStarted} → ReadBegun l bytes 0 0 true v w r → AllBegun l bytes v w r
+pub all_begun : {l : Limits} {bytes v w : List ℕ} {r : Result AllStarted Refused} → ReadBegun l bytes 0 0 true v w r → AllBegun l bytes v w r
 all_begun {l} {bytes} {v} {w} {r} x =
     record {
-      begun = subst (λ (m : Reading spec.Sheet). SetBegun m l (λ sheet. sheet.starts) v w r.begun) (first_choice bytes) x.begun;
+      begun = subst (λ (m : Reading spec.Sheet). SetBegun m l (λ sheet. sheet.starts) v w (all_size r)) (first_choice bytes) x.begun;
       starts = λ sheet end e. x.starts sheet end (first_choice bytes ∙ e);
     }
 
 -- no set is a refusal
-set_never : {n m number place : ℕ} → Set n m ≡ Refused number place → ⊥
-set_never e = let z : ◌≡◌ {A = ℕ} 0 1 = cc in omega arith
+set_never : {size : SetSize} {e : Refused} → ◌≡◌ {A = Result SetSize Refused} (Ok size) (Err e) → ⊥
+set_never e = cc
 
 -- a set that stands in the work slice has no more members than there is room for
-pub set_few : {reading : Reading spec.Sheet} {l : Limits} {seeds : spec.Sheet → List spec.Configuration} {v w : List ℕ} {n m : ℕ} {r : Begun}
-    → SetBegun reading l seeds v w r → r ≡ Set n m → n ≤ member_room
+pub set_few : {reading : Reading spec.Sheet} {l : Limits} {seeds : spec.Sheet → List spec.Configuration} {v w : List ℕ} {size : SetSize}
+    {r : Result SetSize Refused} → SetBegun reading l seeds v w r → r ≡ Ok size → size.members ≤ member_room
 set_few (by_sheet a b) e = absurd (set_never (sym e))
 set_few {l = l} {seeds} {v} {w} (by_set sheet end a h) e = (subst (BegunAs l sheet (seeds sheet) v w) e h).whole.held.few.0
 
@@ -164,18 +173,18 @@ module _ {A : Type 0} (on : spec.Sheet → List spec.Configuration → Outcome A
     state_refused (too_large h p e) = (by_fit h ((fits_exactly sheet l (seeds sheet)).1 p), e)
 
   -- The call is refused: with this number and place, and with the work slice as the number asks.
-  pub begun_refused : {v w : List ℕ} {r : Begun} {k p : ℕ} → SetBegun reading l seeds v w r → r ≡ Refused k p
-      → (framed (length v) ≡ refusal k p) × (w ≡ work_refused k v)
-  begun_refused {v} {w} {r} {k} {p} (by_sheet {number} {place} e same) is =
-      let en : number ≡ k = cc in
-      let ep : place ≡ p = cc in
-      let few = (known.low number place e).within in
-      let t : clears number ≡ false =
-      ap₂ (λ (a b : Bool). a || b) (ne_eqb number large_set (λ z. omega arith)) (ne_eqb number short_answer (λ z. omega arith)) in (
-        read_as (refused number place) (length v) e ∙ ap₂ refusal en ep,
-        same ∙ ap (λ (b : Bool). cond b (cleared v) v) (sym t) ∙ ap (λ (n : ℕ). work_refused n v) en,
+  pub begun_refused : {v w : List ℕ} {r : Result SetSize Refused} {e : Refused} → SetBegun reading l seeds v w r → r ≡ Err e
+      → (framed (length v) ≡ refusal (number e.refusal) e.place) × (w ≡ work_refused (number e.refusal) v)
+  begun_refused {v} {w} {r} {e = told} (by_sheet {e = given} e same) is =
+      let eg : given ≡ told = cc in
+      let k : ℕ = number given.refusal in
+      let few = (known.low k given.place e).within in
+      let t : clears k ≡ false =
+      ap₂ (λ (a b : Bool). a || b) (ne_eqb k large_set (λ z. omega arith)) (ne_eqb k short_answer (λ z. omega arith)) in (
+        read_as (refused k given.place) (length v) e ∙ ap (λ (x : Refused). refusal (number x.refusal) x.place) eg,
+        same ∙ ap (λ (b : Bool). cond b (cleared v) v) (sym t) ∙ ap (λ (x : Refused). work_refused (number x.refusal) v) eg,
       )
-  begun_refused {v} {w} {r} {k} {p} (by_set sheet end e h) is =
+  begun_refused {v} {w} {r} {e = told} (by_set sheet end e h) is =
       let x = state_refused sheet v (subst (BegunAs l sheet (seeds sheet) v w) is h) in
       (read_as (got sheet end) (length v) e ∙ x.0, x.1)
 
@@ -189,10 +198,11 @@ module _ {A : Type 0} (on : spec.Sheet → List spec.Configuration → Outcome A
     pub whole : SetWhole sheet l (seeds sheet) v w n m
     pub outcome : framed (length v) ≡ on sheet (explored sheet l (seeds sheet))
 
-  pub begun_on : {v w : List ℕ} {r : Begun} {n m : ℕ} → SetBegun reading l seeds v w r → r ≡ Set n m → GoesOn v w n m
+  pub begun_on : {v w : List ℕ} {r : Result SetSize Refused} {size : SetSize} → SetBegun reading l seeds v w r → r ≡ Ok size
+      → GoesOn v w size.members size.moves
   begun_on (by_sheet e same) is = absurd (set_never (sym is))
-  begun_on {v} {w} {r} {n} {m} (by_set sheet end e h) is =
-      let x : BegunSet l sheet (seeds sheet) v w n m = subst (BegunAs l sheet (seeds sheet) v w) is h in
+  begun_on {v} {w} {r} {size} (by_set sheet end e h) is =
+      let x : BegunSet l sheet (seeds sheet) v w size.members size.moves = subst (BegunAs l sheet (seeds sheet) v w) is h in
       record {
         sheet = sheet;
         end = end;

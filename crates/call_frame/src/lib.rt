@@ -14,29 +14,23 @@ ghost use Rattle.call_frame.specs.Begun.{BegunAs, ChoiceSet, SeedsBegun, ReadBeg
 
 use call_seeds::{document_caps, seed_count, seeds_of};
 use collected_moves::Caps;
-use found_set::Found;
-use sheet_types::{Configuration, Section, Sheet};
+use found_set::SetSize;
+use refusals::{Refusal, Refused};
+use sheet_types::{Configuration, Sheet};
 use work_layout::WORK_END;
 
-// The numbers of members and of moves of the set that stands in the work slice, or the refusal.
-#[derive(Drop)]
-pub enum Begun {
-    Set(usize, usize),
-    Refused(u8, usize),
-}
-
-// The same with the two starts that were chosen.
-#[derive(Drop)]
+// The numbers of members and of moves of the set that stands in the work slice, with the two starts that were chosen.
+#[derive(Clone, Copy)]
 pub struct Started {
-    pub begun: Begun,
+    pub size: SetSize,
     pub left: Configuration,
     pub right: Configuration,
 }
 
 // The same with the starts that are the seeds, of which there are `count`.
-#[derive(Drop)]
+#[derive(Clone, Copy)]
 pub struct AllStarted {
-    pub begun: Begun,
+    pub size: SetSize,
     pub starts: [Configuration; 16],
     pub count: usize,
 }
@@ -49,20 +43,20 @@ fn begin_set(
     seeds: [Configuration; 16],
     k: usize,
     caps: Caps,
-) -> Begun
+) -> Result<SetSize, Refused>
     requires { CapsFit caps × Admissible (sheet_of sheet)
         × NodeTable (nodes_in (nodes_of sheet.table) sheet.node_count) sheet.table × SeedsFit sheet seeds k }
     ensures { BegunAs (limits_of caps) (sheet_of sheet) (starts_in seeds k) work.old work.new result }
 {
     if work.len() < WORK_END {
-        return Begun::Refused(refusals::SHORT_WORK, 0);
+        return Err(Refusal::ShortWork.at(0));
     }
     let found = found_set::find_set(work, sheet, seeds, k, caps);
-    let Found::Whole(n, m) = found else {
+    let Some(size) = found else {
         work_layout::clear_work(work);
-        return Begun::Refused(refusals::LARGE_SET, 0);
+        return Err(Refusal::LargeSet.at(0));
     };
-    Begun::Set(n, m)
+    Ok(size)
 }
 
 // The set that grows from two starts of a sheet that is held, or from all.
@@ -73,19 +67,18 @@ fn begin_seeds(
     right: usize,
     all: bool,
     caps: Caps,
-) -> AllStarted
+) -> Result<AllStarted, Refused>
     requires { CapsFit caps × ChoiceHeld sheet left right }
     ensures { SeedsBegun (limits_of caps) (sheet_of sheet) (seeds_from all left right (sheet_of sheet)) work.old work.new result }
 {
-    let starts = sheet.starts;
-    let seeds = seeds_of(starts, left, right, all);
+    let seeds = seeds_of(sheet.starts, left, right, all);
     let count = seed_count(sheet.start_count, all);
-    let begun = begin_set(work, sheet, seeds, count, caps);
-    AllStarted {
-        begun,
+    let size = begin_set(work, sheet, seeds, count, caps)?;
+    Ok(AllStarted {
+        size,
         starts: seeds,
         count,
-    }
+    })
 }
 
 // The set that grows from two starts of the sheet that the bytes are, or from all, within caps. A choice that is not on the sheet is
@@ -97,45 +90,35 @@ fn begin(
     all: bool,
     work: &mut [u32],
     caps: Caps,
-) -> AllStarted
+) -> Result<AllStarted, Refused>
     requires { CapsFit caps }
     ensures { ReadBegun (limits_of caps) sheet.now left right all work.old work.new result }
 {
-    let read = sheet_reader::read_choice(sheet, left, right);
-    let section = read.answer;
-    let held = read.sheet;
-    match section {
-        Section::Refused(number, place) => {
-            let starts = held.starts;
-            AllStarted {
-                begun: Begun::Refused(number, place),
-                starts,
-                count: 0,
-            }
-        }
-        Section::Got(_, _) => begin_seeds(work, held, left, right, all, caps),
-    }
+    let held = sheet_reader::read_choice(sheet, left, right)?;
+    begin_seeds(work, held, left, right, all, caps)
 }
 
 // The set that grows from two starts of the sheet that the bytes are, within caps.
-pub fn begin_pair(sheet: &[u8], left: usize, right: usize, work: &mut [u32], caps: Caps) -> Started
+pub fn begin_pair(
+    sheet: &[u8],
+    left: usize,
+    right: usize,
+    work: &mut [u32],
+    caps: Caps,
+) -> Result<Started, Refused>
     requires { CapsFit caps }
     ensures { PairBegun (limits_of caps) sheet.now left right work.old work.new result }
 {
-    let seeded = begin(sheet, left, right, false, work, caps);
-    let begun = seeded.begun;
-    let starts = seeded.starts;
-    let p = starts[0];
-    let q = starts[1];
-    Started {
-        begun,
-        left: p,
-        right: q,
-    }
+    let seeded = begin(sheet, left, right, false, work, caps)?;
+    Ok(Started {
+        size: seeded.size,
+        left: seeded.starts[0],
+        right: seeded.starts[1],
+    })
 }
 
 // The set that grows from all starts of the sheet that the bytes are, within caps: every sheet has a first start, so no choice is refused.
-pub fn begin_all(sheet: &[u8], work: &mut [u32], caps: Caps) -> AllStarted
+pub fn begin_all(sheet: &[u8], work: &mut [u32], caps: Caps) -> Result<AllStarted, Refused>
     requires { CapsFit caps }
     ensures { AllBegun (limits_of caps) sheet.now work.old work.new result }
 {
@@ -143,9 +126,14 @@ pub fn begin_all(sheet: &[u8], work: &mut [u32], caps: Caps) -> AllStarted
 }
 
 // The public call for a set: that of two starts of a sheet, within document 01's limits, left in the work slice.
-pub fn set_of_choice(sheet: &[u8], left: usize, right: usize, work: &mut [u32]) -> Begun
+pub fn set_of_choice(
+    sheet: &[u8],
+    left: usize,
+    right: usize,
+    work: &mut [u32],
+) -> Result<SetSize, Refused>
     ensures { ChoiceSet limits sheet.now left right work.old work.new result }
 {
-    let started = begin_pair(sheet, left, right, work, document_caps());
-    started.begun
+    let started = begin_pair(sheet, left, right, work, document_caps())?;
+    Ok(started.size)
 }

@@ -7,12 +7,10 @@ use Rattle.answers.specs.SheetBytes.{ChoiceIs}
 use Rattle.answers.specs.CallLimits.{Limits}
 use Rattle.answers.specs.Report as spec
 use Rattle.answers.specs.Report.{Verdict, SAME, DIFF, report_bytes, report_length}
-use Rattle.answers.specs.Outcome.{cleared}
+use Rattle.answers.specs.Outcome.{cleared, Outcome, refusal, reported}
 use Rattle.answers.specs.Promise.{PromiseBy, Refuses, Reports, Faithful}
 use Rattle.answers.specs.ReadBack.{read_back_lem}
 use Rattle.answers.specs.declared.Reported.{Reported}
-use Rattle.answers.specs.declared.Answer.{Answer}
-use Rattle.answers.specs.declared.Answer.TheVariants.{Report, Refused}
 use Rattle.answers.specs.Returned.{returned_of}
 
 abbrev pub verdict_read : Bool → Verdict
@@ -34,6 +32,6 @@ pub record ReportPromise (l : Limits) (bytes : List ℕ) (left right : ℕ) (v b
 
 -- The work slice v became w, the answer slice `before` became `after`, and `answer` was returned: each refusal under its condition
 -- and no other, and otherwise the report.
-abbrev pub CallPromise : Limits → List ℕ → ℕ → ℕ → List ℕ → List ℕ → List ℕ → List ℕ → Answer → Type 1
+abbrev pub CallPromise : Limits → List ℕ → ℕ → ℕ → List ℕ → List ℕ → List ℕ → List ℕ → Outcome Reported → Type 1
 CallPromise l bytes left right =
-    PromiseBy Refused (Refuses l bytes left right) Report returned_of (Reports l bytes left right) (ReportPromise l bytes left right)
+    PromiseBy refusal (Refuses l bytes left right) reported returned_of (Reports l bytes left right) (ReportPromise l bytes left right)

@@ -1,5 +1,6 @@
 -- Two calls on one sheet and one choice, side by side: said of what was returned and of what stands in the slices afterwards. Document
 -- 02, card 3, is about two calls that differ in their limits alone.
+use Rattle.answers.specs.Outcome.{Outcome, refusal}
 use Rattle.std.specs.Prelude.{◌≡◌, ◌⊎◌, List, ℕ, take}
 use Rattle.answers.specs.Refusals.{large_set, short_answer}
 use Rattle.answers.specs.Sheet.{Sheet}
@@ -7,8 +8,6 @@ use Rattle.answers.specs.SheetBytes.{ChoiceIs}
 use Rattle.answers.specs.CallLimits.{Limits}
 use Rattle.answers.specs.Promise.{PassesLimit, starts_of}
 use Rattle.answers.specs.declared.Reported.{Reported}
-use Rattle.answers.specs.declared.Answer.{Answer}
-use Rattle.answers.specs.declared.Answer.TheVariants.{Refused}
 
 -- the two did the same: what was returned, and both slices
 pub record OneCall {R : Type 0} (w after : List ℕ) (answer : R) (w2 after2 : List ℕ) (answer2 : R) : Type 0 where
@@ -42,5 +41,5 @@ pub record LowerBy {R : Type 0} (refuse : ℕ → ℕ → R) (l : Limits) (bytes
   pub higher_refuses : (number place : ℕ) → answer2 ≡ refuse number place → (number ≡ short_answer → ⊥) → OneCall w after answer w2 after2 answer2
 
 -- the comparing call
-abbrev pub LowerCall : Limits → List ℕ → ℕ → ℕ → List ℕ → List ℕ → Answer → List ℕ → List ℕ → Answer → Type 0
-LowerCall = LowerBy Refused
+abbrev pub LowerCall : Limits → List ℕ → ℕ → ℕ → List ℕ → List ℕ → Outcome Reported → List ℕ → List ℕ → Outcome Reported → Type 0
+LowerCall = LowerBy refusal

@@ -1,6 +1,6 @@
 -- What follows of a sheet that was read, with a choice or without: it is well formed, and its starts are configurations of it with few
 -- threads.
-use Rattle.std.specs.Prelude.{◌≡◌, refl, Bool, true, false, List, [], ◌∷◌, ℕ, zero, suc, ◌≤◌, ◌<◌, length, get_or, set}
+use Rattle.std.specs.Prelude.{◌≡◌, refl, Bool, true, false, List, [], ◌∷◌, ℕ, zero, suc, ◌≤◌, ◌<◌, length, get_or, set, Ok}
 use Rattle.std.proofs.Common.{sym, ap, ap₂, ◌∙◌, subst, arith, length-set, get_or-set_same, get_or-set_other}
 use Rattle.collected_moves.specs.Tabulate.{tabulate, tabulate_length, tabulate_at}
 use Rattle.collected_moves.specs.ListPlaces.{get_d_in}
@@ -12,11 +12,8 @@ use Rattle.sheet_types.specs.Reading.{Reading, got, refused, read_sheet, read_ch
 use Rattle.sheet_types.specs.SheetRead.{sheet_reads, choice_reads}
 use Rattle.sheet_reader.specs.ReadingLaws.{written_admissible, choice_no_sheet}
 use Rattle.sheet_types.specs.HeldSheet.{configuration, no_configuration, starts_in, sheet_of}
-use Rattle.sheet_types.specs.SectionLaws.{with_got}
 use Rattle.sheet_types.specs.declared.Configuration.{Configuration}
-use Rattle.sheet_types.specs.declared.Section.TheVariants.{Got}
 use Rattle.sheet_types.specs.declared.Sheet.{Sheet}
-use Rattle.sheet_types.specs.declared.SheetRead.{SheetRead}
 use Rattle.sheet_reader.specs.SheetFound.{SheetFound}
 use Rattle.found_set.specs.FoundSet.{SeedsFit}
 use Rattle.sheet_types.specs.Sheet.{start}
@@ -28,31 +25,29 @@ starts_count : (sheet : Sheet) → length (sheet_of sheet).starts ≡ sheet.star
 starts_count sheet = tabulate_length (λ i. configuration (get_or sheet.starts i no_configuration)) sheet.start_count
 
 -- ---- a sheet that was read, with a choice or without
-module _ (m : Reading spec.Sheet) (r : SheetRead) (found : SheetFound m r) {n end : ℕ} (a : r.answer ≡ Got n end) where
+module _ (end : ℕ) (m : Reading spec.Sheet) (x : Sheet) (found : SheetFound end m (Ok x)) where
   -- the sheet that was read is the one that is held
-  pub read_is : m ≡ got (sheet_of r.sheet) end
-  read_is = with_got (λ _. sheet_of r.sheet) found.reading a
+  pub read_is : m ≡ got (sheet_of x) end
+  read_is = sym found.reading
 
-  read_ready : Admissible (sheet_of r.sheet) → SheetReady r.sheet
+  read_ready : Admissible (sheet_of x) → SheetReady x
   read_ready well =
-      let held = found.held n end a in
       record {
         admissible = well;
-        table = held.table;
-        threads = held.threads;
-        few_starts = rw (starts_count r.sheet) at well.within.few_starts;
+        table = found.held.table;
+        threads = found.held.threads;
+        few_starts = rw (starts_count x) at well.within.few_starts;
       }
 
 -- it is held with both starts
-pub choice_held : (s : List ℕ) (left right : ℕ) (r : SheetRead) → SheetFound (read_choice s left right) r → {n end : ℕ} → r.answer ≡ Got n end
-    → ChoiceHeld r.sheet left right
-choice_held s left right r found {n} {end} a =
-    let chosen : ChoiceIs s left right (sheet_of r.sheet) =
-    ((choice_reads s left right).sound.got_is (sheet_of r.sheet) end (read_is (read_choice s left right) r found a)).0 in
+pub choice_held : (s : List ℕ) (left right : ℕ) (x : Sheet) → SheetFound (length s) (read_choice s left right) (Ok x) → ChoiceHeld x left right
+choice_held s left right x found =
+    let chosen : ChoiceIs s left right (sheet_of x) =
+    ((choice_reads s left right).sound.got_is (sheet_of x) (length s) (read_is (length s) (read_choice s left right) x found)).0 in
     record {
-      ready = read_ready (read_choice s left right) r found a (written_admissible s (sheet_of r.sheet) chosen.written);
-      left_start = rw (starts_count r.sheet) at chosen.left_there;
-      right_start = rw (starts_count r.sheet) at chosen.right_there;
+      ready = read_ready (length s) (read_choice s left right) x found (written_admissible s (sheet_of x) chosen.written);
+      left_start = rw (starts_count x) at chosen.left_there;
+      right_start = rw (starts_count x) at chosen.right_there;
     }
 
 -- ---- a start that is held

@@ -1,8 +1,9 @@
 -- The promise fixes the call: of the same input, what two calls that keep it return and leave in both slices is the same.
+use Rattle.answers.specs.Outcome.{Outcome}
 use Rattle.std.specs.Prelude.{List, ℕ, length}
 use Rattle.answers.specs.CallLimits.{Limits}
 use Rattle.compare_call.specs.CallTheorem.{call_gives}
-use Rattle.answers.specs.declared.Answer.{Answer}
+use Rattle.answers.specs.declared.Reported.{Reported}
 use Rattle.promise_laws.specs.CallPromise.{CallPromise}
 use Rattle.promise_laws.specs.TwoCalls.{OneCall}
 use Rattle.promise_laws.specs.PromiseAlone as every
@@ -10,7 +11,7 @@ use Rattle.promise_laws.specs.PromiseLower.{one_call}
 use Rattle.call_theorem.specs.TwoCallLaws.{report_fixes}
 
 -- nothing that is returned or left is free
-pub promise_alone : (l : Limits) (bytes : List ℕ) (left right : ℕ) (v before : List ℕ) {w after : List ℕ} {answer : Answer} {w2 after2 : List ℕ} {answer2 : Answer}
+pub promise_alone : (l : Limits) (bytes : List ℕ) (left right : ℕ) (v before : List ℕ) {w after : List ℕ} {answer : Outcome Reported} {w2 after2 : List ℕ} {answer2 : Outcome Reported}
     → CallPromise l bytes left right v before w after answer → CallPromise l bytes left right v before w2 after2 answer2
     → OneCall w after answer w2 after2 answer2
 promise_alone l bytes left right v before a b =

@@ -1,4 +1,5 @@
 -- Two calls that keep the promise, each within limits of its own.
+use Rattle.answers.specs.Outcome.{Outcome, refusal, reported}
 use Rattle.std.specs.Prelude.{◌≡◌, refl, List, ◌++◌, ℕ, ◌≤◌, length, take, drop}
 use Rattle.std.proofs.Common.{sym, ap, ◌∙◌, arith}
 use Rattle.std.proofs.Math.Seq.{take-append_seam}
@@ -15,8 +16,6 @@ use Rattle.compare_call.specs.CallTheorem.{call_gives, report_room_lem, room_suf
 use Rattle.answer_laws.specs.RoomLaws.{never_short_answer}
 use Rattle.compare_call.specs.LimitLaws.{desk_no_greater, report_same, gives_same, one_choice}
 use Rattle.answers.specs.declared.Reported.{Reported}
-use Rattle.answers.specs.declared.Answer.{Answer}
-use Rattle.answers.specs.declared.Answer.TheVariants.{Report, Refused}
 use Rattle.answers.specs.Returned.{returned_of}
 use Rattle.promise_laws.specs.PromiseLower.{lower_kept}
 use Rattle.compare_call.specs.Compared.{Compared}
@@ -27,7 +26,7 @@ use Rattle.call_theorem.specs.CallPromiseLaws.{same_report, document_promise, de
 -- ---- a report, whatever the slices
 module _ (l : Limits) (bytes : List ℕ) (left right : ℕ) where
   -- what is returned of a report is fixed by what is read back
-  returned_read : {v before w after : List ℕ} {x : Reported} → CallPromise l bytes left right v before w after (Report x)
+  returned_read : {v before w after : List ℕ} {x : Reported} → CallPromise l bytes left right v before w after (reported x)
       → x ≡ returned_of (report_read x after)
   returned_read {after = after} {x = x} a = same_report (a.to_give (report_read x after) (a.made x refl).reports)
 
@@ -39,15 +38,15 @@ module _ (l : Limits) (bytes : List ℕ) (left right : ℕ) where
       ap (λ (n : ℕ). take n after) m.long ∙ ap (take (length bs)) m.written ∙ take-append_seam bs (drop x.length before)
 
   -- no report is longer than the room that the limits name
-  pub report_within : {v before w after : List ℕ} {x : Reported} → CallPromise l bytes left right v before w after (Report x)
+  pub report_within : {v before w after : List ℕ} {x : Reported} → CallPromise l bytes left right v before w after (reported x)
       → x.length ≤ report_room l
   report_within {v} {before} {after = after} {x = x} a =
       let m = a.made x refl in
       omega (arith, m.long, room_suffices l bytes left right (length v) (length before) (report_read x after) m.reports)
 
   -- and with that room 22 is not given
-  pub room_enough : {v before w after : List ℕ} {answer : Answer} {place : ℕ} → CallPromise l bytes left right v before w after answer
-      → report_room l ≤ length before → answer ≡ Refused short_answer place → ⊥
+  pub room_enough : {v before w after : List ℕ} {answer : Outcome Reported} {place : ℕ} → CallPromise l bytes left right v before w after answer
+      → report_room l ≤ length before → answer ≡ refusal short_answer place → ⊥
   room_enough {place = place} a room e =
       never_short_answer
       (λ k x. omega (arith, (number_low bytes left right short_answer k ((choice_reads bytes left right).is_refused short_answer k x)).within))
@@ -63,7 +62,7 @@ reports_same l h bytes left right =
 module _ (l h : Limits) (bytes : List ℕ) (left right : ℕ) where
   -- Where both report, what they return and write is the same.
   pub one_report : {v before w after : List ℕ} {x : Reported} {v2 before2 w2 after2 : List ℕ} {y : Reported}
-      → CallPromise l bytes left right v before w after (Report x) → CallPromise h bytes left right v2 before2 w2 after2 (Report y)
+      → CallPromise l bytes left right v before w after (reported x) → CallPromise h bytes left right v2 before2 w2 after2 (reported y)
       → OneReport x after y after2
   one_report {after = after} {x = x} {after2 = after2} {y = y} a b =
       let m = a.made x refl in
@@ -82,7 +81,7 @@ module _ (l h : Limits) (bytes : List ℕ) (left right : ℕ) where
       let same : report_read x after ≡ report_read x after2 = reports_same l h bytes left right m.reports n.reports in
       (m.written ∙ ap (λ (y : spec.Report). report_bytes y ++ drop x.length before) same ∙ sym n.written, m.work ∙ sym n.work)
 
-  module _ (v before : List ℕ) {w after : List ℕ} {answer : Answer} {w2 after2 : List ℕ} {answer2 : Answer}
+  module _ (v before : List ℕ) {w after : List ℕ} {answer : Outcome Reported} {w2 after2 : List ℕ} {answer2 : Outcome Reported}
       (a : CallPromise l bytes left right v before w after answer) (b : CallPromise h bytes left right v before w2 after2 answer2) where
     -- Card 3, for any two limits of which the first are nowhere above the second.
     pub lower_call : NoGreater l h → LowerCall l bytes left right w after answer w2 after2 answer2
@@ -92,7 +91,7 @@ module _ (l h : Limits) (bytes : List ℕ) (left right : ℕ) where
 
 -- ---- the desk's call beside document 01's, from the contracts of both
 module _ (bytes : List ℕ) (left right : ℕ) where
-  pub desk_lower : (v before w after : List ℕ) (answer : Answer) (w2 after2 : List ℕ) (answer2 : Answer)
+  pub desk_lower : (v before w after : List ℕ) (answer : Outcome Reported) (w2 after2 : List ℕ) (answer2 : Outcome Reported)
       → Compared (compare_desk bytes left right (length v) (length before)) v before w after answer
       → Compared (compare bytes left right (length v) (length before)) v before w2 after2 answer2
       → LowerCall desk_limits bytes left right w after answer w2 after2 answer2
@@ -102,9 +101,9 @@ module _ (bytes : List ℕ) (left right : ℕ) where
 
   -- both report, each in slices of its own
   pub desk_report : (v before w after : List ℕ) (x : Reported) (v2 before2 w2 after2 : List ℕ) (y : Reported)
-      → Compared (compare_desk bytes left right (length v) (length before)) v before w after (Report x)
-      → Compared (compare bytes left right (length v2) (length before2)) v2 before2 w2 after2 (Report y)
+      → Compared (compare_desk bytes left right (length v) (length before)) v before w after (reported x)
+      → Compared (compare bytes left right (length v2) (length before2)) v2 before2 w2 after2 (reported y)
       → OneReport x after y after2
   desk_report v before w after x v2 before2 w2 after2 y a b =
       one_report desk_limits limits bytes left right
-      (desk_promise bytes left right v before w after (Report x) a) (document_promise bytes left right v2 before2 w2 after2 (Report y) b)
+      (desk_promise bytes left right v before w after (reported x) a) (document_promise bytes left right v2 before2 w2 after2 (reported y) b)

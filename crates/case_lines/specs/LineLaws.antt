@@ -1,25 +1,21 @@
 -- Laws of places, of bytes of a class, and of digits read one after another.
-use Rattle.std.specs.Prelude.{◌≡◌, refl, Bool, true, false, cond, ◌&&◌, ◌||◌, List, [], ◌∷◌, ◌++◌, ◌⊎◌, ℕ, zero, suc, ◌+◌, ◌*◌, ◌-◌, ◌/◌, ◌^◌, ◌≤◌, ◌<◌, length, get_or, take, drop, set, eqb, leb}
+use Rattle.std.specs.Prelude.{Option, Some, None, ◌≡◌, refl, Bool, true, false, cond, ◌&&◌, List, [], ◌∷◌, ◌++◌, ℕ, zero, suc, ◌+◌, ◌*◌, ◌-◌, ◌/◌, ◌^◌, ◌≤◌, ◌<◌, length, get_or, take, drop, set, eqb, leb}
 use Rattle.std.proofs.Math.Path.{sym}
-use Rattle.std.proofs.Common.{ap, ◌∙◌, inl, inr, ⊎_elim, pow-suc, add-one, arith, length-append, length-drop, drop_of_length-le, drop-cons, take-suc, eq-eqb, ne_eqb, leb-true}
+use Rattle.std.proofs.Common.{ap, ◌∙◌, pow-suc, add-one, arith, length-append, length-drop, drop_of_length-le, drop-cons, take-suc, eq-eqb, ne_eqb, leb-true}
 use Rattle.std.proofs.Math.Nat.{pow-le-pow_right}
 use Rattle.std.proofs.lemmas.List.{set_at}
 use Rattle.std.proofs.Math.Seq.{append_snoc}
+use Rattle.std.specs.List.{list_all}
 use Rattle.list_laws.specs.TestLaws.{and_left, and_right}
-use Rattle.list_laws.specs.Lists.{all, same_numbers}
+use Rattle.list_laws.specs.Lists.{all}
 use Rattle.list_laws.specs.Tabulate.{tabulate, tabulate_next, tabulate_length}
 use Rattle.printed_lines.specs.Decimal.{value_from, value}
 use Rattle.printed_lines.specs.Lines.{space}
-use Rattle.case_lines.specs.Lines.{before, end_from, after_from, between, in_class, byte_of, most_digits, field_at, number_of, call_of, wrong_name, bytes_of, undecodable, Decoded, passed_over, case_of, line_of, Inside}
-use Rattle.case_lines.specs.declared.Parsed.{Parsed}
+use Rattle.case_lines.specs.Lines.{before, end_from, after_from, between, byte_of, most_digits, field_at, number_of, call_of, wrong_name, bytes_of, undecodable, Decoded, passed_over, case_of, line_of, Inside}
 use Rattle.case_lines.specs.declared.Call.{Call}
-use Rattle.case_lines.specs.declared.Called.{Called}
-use Rattle.case_lines.specs.declared.Called.TheVariants.{Names, Unknown}
 use Rattle.case_lines.specs.declared.Case.{Case}
 use Rattle.case_lines.specs.declared.Line.{Line}
-use Rattle.case_lines.specs.declared.Parsed.TheVariants.{Is, Not}
 use Rattle.case_lines.specs.declared.Line.TheVariants.{Passed, Malformed, Holds}
-use Rattle.case_lines.specs.declared.Class.TheVariants.{Hex}
 
 -- ---- places
 pub end_there : (stop : ℕ) (s : List ℕ) (i : ℕ) → i < length s → get_or s i 0 ≡ stop → end_from stop s i ≡ i
@@ -48,11 +44,10 @@ pub end_within : (stop : ℕ) (s : List ℕ) (at : ℕ) → at ≤ length s → 
 end_within stop s at h = omega (arith, before_within stop (drop at s), length-drop at s)
 
 -- ---- bytes of a class
-pub all_past : (p : ℕ → Bool) (s : List ℕ) (i : ℕ) → length s ≤ i → all p (drop i s) ≡ true
-all_past p s i h = rw (drop_of_length-le s h)
-
-pub all_here : (p : ℕ → Bool) (s : List ℕ) (i : ℕ) → i < length s → all p (drop i s) ≡ (p (get_or s i 0) && all p (drop (i + 1) s))
-all_here p s i h = rw (drop-cons s i 0 h, add-one i)
+-- std's test is the same
+pub all_is : (p : ℕ → Bool) (s : List ℕ) → list_all p s ≡ all p s
+all_is p [] = refl
+all_is p (b ∷ bs) = ap (λ (r : Bool). p b && r) (all_is p bs)
 
 pub all_at : (p : ℕ → Bool) (s : List ℕ) → all p s ≡ true → (i : ℕ) → i < length s → p (get_or s i 0) ≡ true
 all_at p [] h i l = absurd (omega arith)
@@ -66,22 +61,6 @@ pub record Within (low high b : ℕ) : Type 0 where
 pub between_within : (low high b : ℕ) → between low high b ≡ true → Within low high b
 between_within low high b h =
     record { above = leb-true low b (and_left (leb low b) (leb b high) h); below = leb-true b high (and_right (leb low b) (leb b high) h) }
-
-or_cases : (a b : Bool) → (a || b) ≡ true → (a ≡ true) ⊎ (b ≡ true)
-or_cases true b h = inl refl
-or_cases false b h = inr h
-
--- a hex digit is 0 to 9 or a to f
-hex_within : (b : ℕ) → in_class Hex b ≡ true → Within 48 57 b ⊎ Within 97 102 b
-hex_within b h =
-    ⊎_elim (λ (k : between 48 57 b ≡ true). inl (between_within 48 57 b k)) (λ (k : between 97 102 b ≡ true). inr (between_within 97 102 b k))
-    (or_cases (between 48 57 b) (between 97 102 b) h)
-
-pub hex_low : (b : ℕ) → in_class Hex b ≡ true → 48 ≤ b
-hex_low b h = ⊎_elim (λ (w : Within 48 57 b). w.above) (λ (w : Within 97 102 b). omega (arith, w.above)) (hex_within b h)
-
-pub hex_letter : (b : ℕ) → in_class Hex b ≡ true → 58 ≤ b → Within 97 102 b
-hex_letter b h k = ⊎_elim (λ (w : Within 48 57 b). absurd (omega (arith, w.below))) (λ (w : Within 97 102 b). w) (hex_within b h)
 
 -- ---- digits one after another
 value_more : (n : ℕ) (ds : List ℕ) (d : ℕ) → value_from n (ds ++ (d ∷ [])) ≡ 10 * value_from n ds + (d - 48)
@@ -109,38 +88,6 @@ digits_more n i d h k = rw (add-one i) (omega (arith, pow-suc 10 i))
 pub digits_fit : (n i : ℕ) → n < 10 ^ i → i < most_digits → 10 * n + 9 < 2 ^ 64
 digits_fit n i h k = omega (arith, pow-le-pow_right {n = 10} (omega arith) {i = i} {j = 18} (omega arith))
 
-pub decoded_not : {ds out : List ℕ} → undecodable ds out ≡ true → Decoded ds out out Not
-decoded_not h = record { count = rw h; slice = rw h }
-
-pub decoded_some : {ds out after : List ℕ} → undecodable ds out ≡ false → after ≡ bytes_of ds ++ drop (length ds / 2) out
-    → Decoded ds out after (Is (length ds / 2))
-decoded_some h e = record { count = rw h; slice = rw h e }
-
--- ---- words
--- of equal bytes the later ones decide
-pub same_here : (s t : List ℕ) (i : ℕ) → i < length s → i < length t → get_or s i 0 ≡ get_or t i 0
-    → same_numbers (drop i s) (drop i t) ≡ same_numbers (drop (i + 1) s) (drop (i + 1) t)
-same_here s t i h k e =
-    rw (drop-cons s i 0 h, drop-cons t i 0 k, eq-eqb (get_or s i 0) (get_or t i 0) e, add-one i)
-
-pub same_not : (s t : List ℕ) (i : ℕ) → i < length s → i < length t → (get_or s i 0 ≡ get_or t i 0 → ⊥)
-    → same_numbers (drop i s) (drop i t) ≡ false
-same_not s t i h k e = rw (drop-cons s i 0 h, drop-cons t i 0 k, ne_eqb (get_or s i 0) (get_or t i 0) e)
-
-pub same_past : (s t : List ℕ) (i : ℕ) → length s ≤ i → length t ≤ i → same_numbers (drop i s) (drop i t) ≡ true
-same_past s t i h k = rw (drop_of_length-le s h, drop_of_length-le t k)
-
-and_false : (b : Bool) → (b && false) ≡ false
-and_false true = refl
-and_false false = refl
-
--- words of different lengths differ
-pub same_lengths : (s t : List ℕ) → (length s ≡ length t → ⊥) → same_numbers s t ≡ false
-same_lengths [] [] h = absurd (h refl)
-same_lengths [] (y ∷ t) h = refl
-same_lengths (x ∷ s) [] h = refl
-same_lengths (x ∷ s) (y ∷ t) h = rw (same_lengths s t (λ e. h (ap suc e))) (and_false (eqb x y))
-
 -- ---- a case, field after field
 module _ (call : Call) (line : List ℕ) (at : ℕ) where
   pub case_no_name : wrong_name (field_at line at) ≡ true → case_of call line at ≡ Malformed
@@ -148,40 +95,40 @@ module _ (call : Call) (line : List ℕ) (at : ℕ) where
   case_no_name h = rw (case_of, h)
 
   module _ (named : wrong_name (field_at line at) ≡ false) {p : ℕ} (first : p ≡ after_from space line at) where
-    pub case_no_left : number_of (field_at line p) ≡ Not → case_of call line at ≡ Malformed
+    pub case_no_left : number_of (field_at line p) ≡ None → case_of call line at ≡ Malformed
     unfolding case_of
     case_no_left h = rw (case_of, named, sym first, h)
 
-    module _ {q l : ℕ} (left : number_of (field_at line p) ≡ Is l) (second : q ≡ after_from space line p) where
-      pub case_no_right : number_of (field_at line q) ≡ Not → case_of call line at ≡ Malformed
+    module _ {q l : ℕ} (left : number_of (field_at line p) ≡ Some l) (second : q ≡ after_from space line p) where
+      pub case_no_right : number_of (field_at line q) ≡ None → case_of call line at ≡ Malformed
       unfolding case_of
       case_no_right h = rw (case_of, named, sym first, left, sym second, h)
 
-      pub case_holds : {r d : ℕ} → number_of (field_at line q) ≡ Is r → d ≡ after_from space line q
+      pub case_holds : {r d : ℕ} → number_of (field_at line q) ≡ Some r → d ≡ after_from space line q
           → case_of call line at ≡ Holds (record { call = call; name = at; until = end_from space line at; left = l; right = r; digits = d })
       unfolding case_of
       case_holds h third = rw (case_of, named, sym first, left, sym second, h, sym third)
 
 -- ---- a line whose first field names a call, and one whose does not
 module _ (line : List ℕ) (kept : passed_over line ≡ false) where
-  pub line_unknown : call_of (field_at line 0) ≡ Unknown → line_of line ≡ Malformed
+  pub line_unknown : call_of (field_at line 0) ≡ None → line_of line ≡ Malformed
   line_unknown h = rw (kept, h)
 
-  pub line_named : {call : Call} → call_of (field_at line 0) ≡ Names call → line_of line ≡ case_of call line (after_from space line 0)
+  pub line_named : {call : Call} → call_of (field_at line 0) ≡ Some call → line_of line ≡ case_of call line (after_from space line 0)
   line_named h = rw (kept, h)
 
 -- ---- what callers lend is within
 -- the bytes that were decoded are within the slice
-pub decoded_inside : {ds before after : List ℕ} {r : Parsed} {n : ℕ} → Decoded ds before after r → r ≡ Is n → n ≤ length after
+pub decoded_inside : {ds before after : List ℕ} {r : Option ℕ} {n : ℕ} → Decoded ds before after r → r ≡ Some n → n ≤ length after
 decoded_inside {ds} {before} {after} {r} {n} d e = go (undecodable ds before) refl
   where
     go : (t : Bool) → undecodable ds before ≡ t → n ≤ length after
     go true h =
-        let f : r ≡ Not = rw h at d.count in
+        let f : r ≡ None = rw h at d.count in
         let z : ◌≡◌ {A = ℕ} 0 1 = cc in
         absurd (omega arith)
     go false h =
-        let f : r ≡ Is (length ds / 2) = rw h at d.count in
+        let f : r ≡ Some (length ds / 2) = rw h at d.count in
         let k : length ds / 2 ≡ n = cc in
         let g : after ≡ bytes_of ds ++ drop (length ds / 2) before = rw h at d.slice in
         omega (arith, ap length g, length-append (bytes_of ds) (drop (length ds / 2) before), tabulate_length (byte_of ds) (length ds / 2))
@@ -194,12 +141,12 @@ case_inside line {k} e = go (passed_over line) refl (call_of (field_at line 0)) 
     never l f g = let z : ◌≡◌ {A = ℕ} 0 1 = cc in absurd (omega arith)
 
     held : (call : Call) (at : ℕ) → at ≤ length line → case_of call line at ≡ Holds k → (w : Bool) → wrong_name (field_at line at) ≡ w
-        → (l : Parsed) → number_of (field_at line (after_from space line at)) ≡ l
-        → (r : Parsed) → number_of (field_at line (after_from space line (after_from space line at))) ≡ r → Inside line k
+        → (l : Option ℕ) → number_of (field_at line (after_from space line at)) ≡ l
+        → (r : Option ℕ) → number_of (field_at line (after_from space line (after_from space line at))) ≡ r → Inside line k
     held call at h f true hw l hl r hr = never (case_of call line at) f (case_no_name call line at hw)
-    held call at h f false hw Not hl r hr = never (case_of call line at) f (case_no_left call line at hw refl hl)
-    held call at h f false hw (Is l) hl Not hr = never (case_of call line at) f (case_no_right call line at hw refl hl refl hr)
-    held call at h f false hw (Is l) hl (Is r) hr =
+    held call at h f false hw None hl r hr = never (case_of call line at) f (case_no_left call line at hw refl hl)
+    held call at h f false hw (Some l) hl None hr = never (case_of call line at) f (case_no_right call line at hw refl hl refl hr)
+    held call at h f false hw (Some l) hl (Some r) hr =
         let d = after_from space line (after_from space line (after_from space line at)) in
         let i : record { call = call; name = at; until = end_from space line at; left = l; right = r; digits = d } ≡ k =
         cc (case_holds call line at hw refl hl refl hr refl) in
@@ -209,13 +156,13 @@ case_inside line {k} e = go (passed_over line) refl (call_of (field_at line 0)) 
           digits = omega (arith, ap (λ (x : Case). x.digits) i);
         }
 
-    go : (t : Bool) → passed_over line ≡ t → (m : Called) → call_of (field_at line 0) ≡ m → Inside line k
+    go : (t : Bool) → passed_over line ≡ t → (m : Option Call) → call_of (field_at line 0) ≡ m → Inside line k
     go true h m hm =
         let e' : Passed ≡ Holds k = rw h at e in
         let z : ◌≡◌ {A = ℕ} 0 1 = cc in
         absurd (omega arith)
-    go false h Unknown hm = never (line_of line) e (line_unknown line h hm)
-    go false h (Names call) hm =
+    go false h None hm = never (line_of line) e (line_unknown line h hm)
+    go false h (Some call) hm =
         let at = after_from space line 0 in
         held call at (omega arith) (sym (line_named line h hm) ∙ e) (wrong_name (field_at line at)) refl (number_of (field_at line (after_from space line at))) refl
         (number_of (field_at line (after_from space line (after_from space line at)))) refl

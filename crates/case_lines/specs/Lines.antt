@@ -1,17 +1,13 @@
 -- Lines of cases: where a field or a line ends, and what stands in it.
-use Rattle.std.specs.Prelude.{◌≡◌, Bool, cond, not, ◌&&◌, ◌||◌, List, [], ◌∷◌, ◌++◌, ℕ, suc, ◌+◌, ◌*◌, ◌-◌, ◌/◌, ◌%◌, ◌≤◌, min, length, get_or, take, drop, eqb, leb, ltb}
+use Rattle.std.specs.Prelude.{Option, Some, None, ◌≡◌, Bool, cond, not, ◌&&◌, ◌||◌, List, [], ◌∷◌, ◌++◌, ℕ, suc, ◌+◌, ◌*◌, ◌-◌, ◌/◌, ◌%◌, ◌≤◌, min, length, get_or, take, drop, eqb, leb, ltb}
 use Rattle.list_laws.specs.Lists.{all, same_numbers}
 use Rattle.list_laws.specs.Tabulate.{tabulate}
 use Rattle.printed_lines.specs.Decimal.{value}
 use Rattle.printed_lines.specs.Lines.{space}
 use Rattle.case_lines.specs.declared.Class.{Class}
 use Rattle.case_lines.specs.declared.Class.TheVariants.{Digit, Hex, Name}
-use Rattle.case_lines.specs.declared.Parsed.{Parsed}
-use Rattle.case_lines.specs.declared.Parsed.TheVariants.{Is, Not}
 use Rattle.case_lines.specs.declared.Call.{Call}
 use Rattle.case_lines.specs.declared.Call.TheVariants.{Read, Set, Compare, All, Rounds}
-use Rattle.case_lines.specs.declared.Called.{Called}
-use Rattle.case_lines.specs.declared.Called.TheVariants.{Names, Unknown}
 use Rattle.case_lines.specs.declared.Case.{Case}
 use Rattle.case_lines.specs.declared.Line.{Line}
 use Rattle.case_lines.specs.declared.Line.TheVariants.{Passed, Malformed, Holds}
@@ -57,8 +53,8 @@ abbrev pub most_digits : ℕ
 most_digits = 19
 
 -- none without a digit, with too many, or with another byte
-abbrev pub number_of : List ℕ → Parsed
-number_of ds = cond (eqb (length ds) 0 || (ltb most_digits (length ds) || not (all (in_class Digit) ds))) Not (Is (value ds))
+abbrev pub number_of : List ℕ → Option ℕ
+number_of ds = cond (eqb (length ds) 0 || (ltb most_digits (length ds) || not (all (in_class Digit) ds))) None (Some (value ds))
 
 -- ---- sheets
 -- byte i has its high digit at 2 i and its low digit after that
@@ -73,15 +69,15 @@ abbrev pub undecodable : List ℕ → List ℕ → Bool
 undecodable ds out = not (eqb (length ds % 2) 0) || (ltb (length out) (length ds / 2) || not (all (in_class Hex) ds))
 
 -- the number of bytes
-abbrev pub decoded_count : List ℕ → List ℕ → Parsed
-decoded_count ds out = cond (undecodable ds out) Not (Is (length ds / 2))
+abbrev pub decoded_count : List ℕ → List ℕ → Option ℕ
+decoded_count ds out = cond (undecodable ds out) None (Some (length ds / 2))
 
 -- the slice with the bytes at its start; unchanged where there are none
 abbrev pub decoded_into : List ℕ → List ℕ → List ℕ
 decoded_into ds out = cond (undecodable ds out) out (bytes_of ds ++ drop (length ds / 2) out)
 
 -- digits were decoded into a slice, and the number of bytes is handed back
-pub record Decoded (ds before after : List ℕ) (r : Parsed) : Type 0 where
+pub record Decoded (ds before after : List ℕ) (r : Option ℕ) : Type 0 where
   pub count : r ≡ decoded_count ds before
   pub slice : after ≡ decoded_into ds before
 
@@ -113,22 +109,22 @@ abbrev pub rounds_name : List ℕ
 rounds_name = 114 ∷ 111 ∷ 117 ∷ 110 ∷ 100 ∷ 115 ∷ []
 
 -- the call that a word names
-abbrev pub call_of : List ℕ → Called
+abbrev pub call_of : List ℕ → Option Call
 call_of word =
-    cond (same_numbers word read_name) (Names Read)
-    (cond (same_numbers word set_name) (Names Set)
-    (cond (same_numbers word compare_name) (Names Compare)
-    (cond (same_numbers word all_name) (Names All) (cond (same_numbers word rounds_name) (Names Rounds) Unknown))))
+    cond (same_numbers word read_name) (Some Read)
+    (cond (same_numbers word set_name) (Some Set)
+    (cond (same_numbers word compare_name) (Some Compare)
+    (cond (same_numbers word all_name) (Some All) (cond (same_numbers word rounds_name) (Some Rounds) None))))
 
 -- an empty name, or a byte that a name may not have
 abbrev pub wrong_name : List ℕ → Bool
 wrong_name name = eqb (length name) 0 || not (all (in_class Name) name)
 
-abbrev pub with_numbers : Call → ℕ → ℕ → ℕ → Parsed → Parsed → Line
-with_numbers call name end digits (Is l) (Is r) =
+abbrev pub with_numbers : Call → ℕ → ℕ → ℕ → Option ℕ → Option ℕ → Line
+with_numbers call name end digits (Some l) (Some r) =
     Holds (record { call = call; name = name; until = end; left = l; right = r; digits = digits })
-with_numbers _ name end digits (Is l) Not = Malformed
-with_numbers _ name end digits Not r = Malformed
+with_numbers _ name end digits (Some l) None = Malformed
+with_numbers _ name end digits None r = Malformed
 
 -- a name from a place on, then two numbers, then the digits
 unfoldable pub case_of : Call → List ℕ → ℕ → Line
@@ -139,9 +135,9 @@ case_of call line at =
     (with_numbers call at (end_from space line at) (after_from space line q) (number_of (field_at line p)) (number_of (field_at line q)))
 
 -- a case of the call that the first field names
-abbrev pub called_case : Called → List ℕ → Line
-called_case (Names call) line = case_of call line (after_from space line 0)
-called_case Unknown line = Malformed
+abbrev pub called_case : Option Call → List ℕ → Line
+called_case (Some call) line = case_of call line (after_from space line 0)
+called_case None line = Malformed
 
 abbrev pub line_of : List ℕ → Line
 line_of line = cond (passed_over line) Passed (called_case (call_of (field_at line 0)) line)

@@ -23,15 +23,8 @@ enum Class {
     Name,
 }
 
-// A number, or none where the bytes are not as they should be.
-#[derive(Drop)]
-pub enum Parsed {
-    Is(usize),
-    Not,
-}
-
 // What is asked of a sheet: to read it, the set of two starts, to compare them, to compare all starts, or so many rounds.
-#[derive(Drop)]
+#[derive(Clone, Copy)]
 pub enum Call {
     Read,
     Set,
@@ -40,15 +33,8 @@ pub enum Call {
     Rounds,
 }
 
-// The call that a word names.
-#[derive(Drop)]
-enum Called {
-    Names(Call),
-    Unknown,
-}
-
 // A case: its call, where its name begins and ends, its two numbers, and the place of its sheet's digits.
-#[derive(Drop)]
+#[derive(Clone, Copy)]
 pub struct Case {
     pub call: Call,
     pub name: usize,
@@ -58,7 +44,7 @@ pub struct Case {
     pub digits: usize,
 }
 
-#[derive(Drop)]
+#[derive(Clone, Copy)]
 pub enum Line {
     Passed,
     Malformed,
@@ -69,14 +55,12 @@ pub enum Line {
 pub fn end_from(s: &[u8], at: usize, stop: u8) -> usize
     ensures { result ≡ end_from stop s.now at }
 {
-    let mut i = at;
-    while i < s.len() {
+    for i in at..s.len() {
         if s[i] == stop {
             return i;
         }
-        i += 1;
     }
-    i
+    at.max(s.len())
 }
 
 // The place after it, or the end.
@@ -113,14 +97,7 @@ fn in_class(class: Class, b: u8) -> bool
 fn all_in(class: Class, s: &[u8]) -> bool
     ensures { result ≡ all (in_class class) s.now }
 {
-    let mut i: usize = 0;
-    while i < s.len() {
-        if !in_class(class, s[i]) {
-            return false;
-        }
-        i += 1;
-    }
-    true
+    s.iter().all(|b| in_class(class, *b))
 }
 
 // The number that digits stand for.
@@ -128,29 +105,21 @@ fn value(s: &[u8]) -> usize
     requires { (length s.now ≤ most_digits) × (all (in_class Class.Digit) s.now ≡ true) }
     ensures { result ≡ value s.now }
 {
-    let mut n: usize = 0;
-    let mut i: usize = 0;
-    while i < s.len() {
-        n = 10 * n + (s[i] - 48) as usize;
-        i += 1;
+    let mut n = 0;
+    for b in s {
+        n = 10 * n + usize::from(*b - b'0');
     }
     n
 }
 
-// A number in decimal.
-fn number(s: &[u8]) -> Parsed
+// A number in decimal; none where the bytes are not one that fits.
+fn number(s: &[u8]) -> Option<usize>
     ensures { result ≡ number_of s.now }
 {
-    if s.len() == 0 {
-        return Parsed::Not;
+    if s.is_empty() || MOST_DIGITS < s.len() || !all_in(Class::Digit, s) {
+        return None;
     }
-    if MOST_DIGITS < s.len() {
-        return Parsed::Not;
-    }
-    if !all_in(Class::Digit, s) {
-        return Parsed::Not;
-    }
-    Parsed::Is(value(s))
+    Some(value(s))
 }
 
 fn hex_digit(b: u8) -> u8
@@ -165,47 +134,39 @@ fn decode_all(s: &[u8], n: usize, out: &mut [u8])
     requires { (2 * n ≤ length s.now) × (n ≤ length out.old) × (all (in_class Class.Hex) s.now ≡ true) }
     ensures { out.new ≡ tabulate (byte_of s.now) n ++ drop n out.old }
 {
-    let mut i: usize = 0;
-    while i < n {
+    for i in 0..n {
         out[i] = 16 * hex_digit(s[2 * i]) + hex_digit(s[2 * i + 1]);
-        i += 1;
     }
 }
 
 // The bytes that hex digits stand for, and how many there are. Without room, or where the digits are not hex digits by
-// twos, the slice is left as it is.
-pub fn decode(s: &[u8], out: &mut [u8]) -> Parsed
+// twos, there are none, and the slice is left as it is.
+pub fn decode(s: &[u8], out: &mut [u8]) -> Option<usize>
     ensures { Decoded s.now out.old out.new result }
 {
     let n = s.len() / 2;
-    if s.len() % 2 != 0 {
-        return Parsed::Not;
-    }
-    if out.len() < n {
-        return Parsed::Not;
-    }
-    if !all_in(Class::Hex, s) {
-        return Parsed::Not;
+    if s.len() % 2 != 0 || out.len() < n || !all_in(Class::Hex, s) {
+        return None;
     }
     decode_all(s, n, out);
-    Parsed::Is(n)
+    Some(n)
 }
 
 fn passed_over(line: &[u8]) -> bool
     ensures { result ≡ passed_over line.now }
 {
-    line.len() == 0 || line[0] == HASH
+    line.is_empty() || line[0] == HASH
 }
 
 // A name of one byte at least, of bytes that a name may have.
 fn wrong_name(name: &[u8]) -> bool
     ensures { result ≡ wrong_name name.now }
 {
-    name.len() == 0 || !all_in(Class::Name, name)
+    name.is_empty() || !all_in(Class::Name, name)
 }
 
 // The number that stands at a place of a line.
-fn number_at(line: &[u8], at: usize) -> Parsed
+fn number_at(line: &[u8], at: usize) -> Option<usize>
     requires { at ≤ length line.now }
     ensures { result ≡ number_of (field_at line.now at) }
 {
@@ -222,42 +183,23 @@ fn wrong_name_at(line: &[u8], at: usize) -> bool
     wrong_name(&line[at..e])
 }
 
-// Whether bytes are those of a word.
-fn is_word(s: &[u8], word: &[u8]) -> bool
-    ensures { result ≡ same_numbers s.now word.now }
-{
-    if s.len() != word.len() {
-        return false;
-    }
-    let mut i: usize = 0;
-    while i < word.len() {
-        if s[i] != word[i] {
-            return false;
-        }
-        i += 1;
-    }
-    true
-}
-
-fn call_of(word: &[u8]) -> Called
+// The call that a word names.
+fn call_of(word: &[u8]) -> Option<Call>
     ensures { result ≡ call_of word.now }
 {
-    if is_word(word, b"read") {
-        return Called::Names(Call::Read);
+    if word == b"read".as_slice() {
+        Some(Call::Read)
+    } else if word == b"set".as_slice() {
+        Some(Call::Set)
+    } else if word == b"compare".as_slice() {
+        Some(Call::Compare)
+    } else if word == b"all".as_slice() {
+        Some(Call::All)
+    } else if word == b"rounds".as_slice() {
+        Some(Call::Rounds)
+    } else {
+        None
     }
-    if is_word(word, b"set") {
-        return Called::Names(Call::Set);
-    }
-    if is_word(word, b"compare") {
-        return Called::Names(Call::Compare);
-    }
-    if is_word(word, b"all") {
-        return Called::Names(Call::All);
-    }
-    if is_word(word, b"rounds") {
-        return Called::Names(Call::Rounds);
-    }
-    Called::Unknown
 }
 
 // The case of a call whose name stands at a place of a line.
@@ -270,13 +212,11 @@ fn case_of(call: Call, line: &[u8], at: usize) -> Line
     }
     let until = end_from(line, at, SPACE);
     let p = after_from(line, at, SPACE);
-    let l = number_at(line, p);
-    let Parsed::Is(left) = l else {
+    let Some(left) = number_at(line, p) else {
         return Line::Malformed;
     };
     let q = after_from(line, p, SPACE);
-    let r = number_at(line, q);
-    let Parsed::Is(right) = r else {
+    let Some(right) = number_at(line, q) else {
         return Line::Malformed;
     };
     let digits = after_from(line, q, SPACE);
@@ -298,8 +238,7 @@ pub fn line_of(line: &[u8]) -> Line
         return Line::Passed;
     }
     let word = end_from(line, 0, SPACE);
-    let called = call_of(&line[..word]);
-    let Called::Names(call) = called else {
+    let Some(call) = call_of(&line[..word]) else {
         return Line::Malformed;
     };
     case_of(call, line, after_from(line, 0, SPACE))

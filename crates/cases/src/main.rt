@@ -11,14 +11,14 @@
 ghost use Rattle.std.specs.Prelude.{◌≡◌, ◌≤◌, length, take};
 ghost use Rattle.case_lines.specs.Lines.{Inside};
 
-use after_rounds::{Reached, RoundsAnswer, Verdict};
-use all_starts::{AllAnswer, Grouped};
-use answers::{Answer, Reported};
-use call_frame::Begun;
-use case_lines::{Call, Case, Line, Parsed};
+use after_rounds::{Reached, Verdict};
+use all_starts::Grouped;
+use answers::Reported;
+use case_lines::{Call, Case, Line};
 use level_check::{Checked, Claim};
+use refusals::{Refusal, Refused};
 use report_fields::byte_in;
-use sheet_types::{Configuration, Section, Sheet};
+use sheet_types::{Configuration, Sheet};
 use std::io::{self, Stdout, Write};
 
 const LINE_FEED: u8 = 10;
@@ -40,17 +40,30 @@ fn write_reading(output: &mut Stdout, sheet: &[u8], left: usize, right: usize) -
     output.write_all(&out[..n])
 }
 
+// The line of a refusal, and its length.
+fn put_refusal(refused: Refused, out: &mut [u8]) -> usize
+    ensures { (result ≤ length out.new) × (result ≡ length (take result out.new)) }
+{
+    text::refused_line(out, u8::from(refused.refusal), refused.place)
+}
+
+// Writes the line of a refusal.
+fn write_refused(output: &mut Stdout, refused: Refused) -> io::Result<()> {
+    let mut out = [0u8; 128];
+    let n = put_refusal(refused, &mut out);
+    output.write_all(&out[..n])
+}
+
 // The line of the set of two starts of a sheet, and its length.
 fn put_set(sheet: &[u8], left: usize, right: usize, work: &mut [u32], out: &mut [u8]) -> usize
     ensures { (result ≤ length out.new) × (result ≡ length (take result out.new)) }
 {
-    let begun = call_frame::set_of_choice(sheet, left, right, work);
-    match begun {
-        Begun::Set(n, m) => {
-            let sum = set_text::checksum(work, n);
-            set_text::set_line(n, m, sum, out)
+    match call_frame::set_of_choice(sheet, left, right, work) {
+        Ok(size) => {
+            let sum = set_text::checksum(work, size.members);
+            set_text::set_line(size.members, size.moves, sum, out)
         }
-        Begun::Refused(number, place) => text::refused_line(out, number, place),
+        Err(refused) => put_refusal(refused, out),
     }
 }
 
@@ -101,59 +114,25 @@ fn write_levels(
     answer: &[u8],
 ) -> io::Result<()> {
     let mut out = [0u8; 128];
-    let read = sheet_reader::read_choice(sheet, left, right);
-    let held = read.sheet;
-    let checked = check_report(held, left, right, claim_of(reported), answer);
-    let n = level_text::checked_line(checked, &mut out);
-    output.write_all(&out[..n])
-}
-
-// Whether the same is said of two reports.
-fn same_reported(x: Reported, y: Reported) -> bool {
-    x.same == y.same
-        && x.round == y.round
-        && x.left == y.left
-        && x.right == y.right
-        && x.length == y.length
-}
-
-// Whether two calls answer the same.
-fn same_answer(r: Answer, s: Answer) -> bool {
-    match r {
-        Answer::Report(x) => match s {
-            Answer::Report(y) => same_reported(x, y),
-            Answer::Refused(_, _) => false,
-        },
-        Answer::Refused(number, place) => match s {
-            Answer::Report(_) => false,
-            Answer::Refused(other, at) => number == other && place == at,
-        },
+    match sheet_reader::read_choice(sheet, left, right) {
+        Err(_) => Ok(()),
+        Ok(held) => {
+            let checked = check_report(held, left, right, claim_of(reported), answer);
+            let n = level_text::checked_line(checked, &mut out);
+            output.write_all(&out[..n])
+        }
     }
 }
 
 // Writes the desk's refusal, where the other call gave something else; there is no other way in which the two may differ.
-fn write_difference(output: &mut Stdout, desk: Answer) -> io::Result<()> {
-    let mut out = [0u8; 128];
+fn write_difference(output: &mut Stdout, desk: Result<Reported, Refused>) -> io::Result<()> {
     match desk {
-        Answer::Report(_) => {
-            output.write_all(b"DESK DIFFERS\n")?;
-        }
-        Answer::Refused(number, place) => {
-            let n = text::refused_line(&mut out, number, place);
+        Ok(_) => output.write_all(b"DESK DIFFERS\n"),
+        Err(refused) => {
             output.write_all(b"DESK ")?;
-            output.write_all(&out[..n])?;
+            write_refused(output, refused)
         }
     }
-    Ok(())
-}
-
-// Whether a slice begins with these bytes.
-fn begins_with(s: &[u8], bytes: &[u8]) -> bool {
-    let n = bytes.len();
-    if s.len() < n {
-        return false;
-    }
-    bytes == &s[..n]
 }
 
 // Writes what the desk's call gives beside document 01's, of which the answer and the answer slice are given: whether both are the
@@ -164,17 +143,16 @@ fn write_desk(
     left: usize,
     right: usize,
     work: &mut [u32],
-    r: Answer,
+    r: Result<Reported, Refused>,
     answer: &[u8],
 ) -> io::Result<()> {
     let mut bytes = [0u8; 1277];
     let desk = compare_call::compare_desk(sheet, left, right, &mut bytes, work);
-    if same_answer(desk, r) && begins_with(answer, &bytes) {
-        output.write_all(b"DESK AGREES\n")?;
+    if desk == r && answer.starts_with(&bytes) {
+        output.write_all(b"DESK AGREES\n")
     } else {
-        write_difference(output, desk)?;
+        write_difference(output, desk)
     }
-    Ok(())
 }
 
 // Writes the report on two starts of a sheet, or the refusal, what the desk's call gives, and what the levels say of a report.
@@ -193,8 +171,8 @@ fn write_comparison(
     output.write_all(&out[..k])?;
     write_desk(output, sheet, left, right, work, r, &answer)?;
     match r {
-        Answer::Report(x) => write_levels(output, sheet, left, right, x, &answer),
-        Answer::Refused(_, _) => Ok(()),
+        Ok(x) => write_levels(output, sheet, left, right, x, &answer),
+        Err(_) => Ok(()),
     }
 }
 
@@ -236,28 +214,18 @@ fn class_in(classes: &[u8], i: usize) -> usize {
 // Writes the classes of k starts.
 fn write_classes(output: &mut Stdout, classes: &[u8], k: usize) -> io::Result<()> {
     output.write_all(b"STARTS")?;
-    let mut i: usize = 0;
-    while i < k {
+    for i in 0..k {
         write_number(output, class_in(classes, i))?;
-        i += 1;
     }
     output.write_all(b"\n")
 }
 
-// What the comparing call finds of two starts.
-#[derive(Drop)]
-enum Pair {
-    Same,
-    Diff,
-    Refused,
-}
-
-fn pair_of(sheet: &[u8], left: usize, right: usize, work: &mut [u32]) -> Pair {
+// Whether the comparing call finds two starts the same; none where it refuses them.
+fn pair_of(sheet: &[u8], left: usize, right: usize, work: &mut [u32]) -> Option<bool> {
     let mut answer = [0u8; 10237];
-    let r = compare_call::compare(sheet, left, right, &mut answer, work);
-    match r {
-        Answer::Report(x) => { if x.same { Pair::Same } else { Pair::Diff } }
-        Answer::Refused(_, _) => Pair::Refused,
+    match compare_call::compare(sheet, left, right, &mut answer, work) {
+        Ok(x) => Some(x.same),
+        Err(_) => None,
     }
 }
 
@@ -265,35 +233,28 @@ fn pair_of(sheet: &[u8], left: usize, right: usize, work: &mut [u32]) -> Pair {
 // classes, whether it reports on them.
 fn pair_agrees(sheet: &[u8], i: usize, j: usize, classes: &[u8], work: &mut [u32]) -> bool {
     let one = class_in(classes, i) == class_in(classes, j);
-    let none = classes.len() == 0;
-    let pair = pair_of(sheet, i, j, work);
-    match pair {
-        Pair::Same => none || one,
-        Pair::Diff => none || !one,
-        Pair::Refused => false,
+    match pair_of(sheet, i, j, work) {
+        Some(same) => classes.is_empty() || one == same,
+        None => false,
     }
 }
 
 // The same of start i and each from it on, of k starts.
 fn later_agree(sheet: &[u8], i: usize, k: usize, classes: &[u8], work: &mut [u32]) -> bool {
-    let mut j = i;
-    while j < k {
+    for j in i..k {
         if !pair_agrees(sheet, i, j, classes, work) {
             return false;
         }
-        j += 1;
     }
     true
 }
 
 // The same of every two of k starts.
 fn pairs_agree(sheet: &[u8], k: usize, classes: &[u8], work: &mut [u32]) -> bool {
-    let mut i: usize = 0;
-    while i < k {
+    for i in 0..k {
         if !later_agree(sheet, i, k, classes, work) {
             return false;
         }
-        i += 1;
     }
     true
 }
@@ -320,11 +281,10 @@ fn write_answer(
     write_members(output, &answer[..end])?;
     write_classes(output, &answer[end..length], k)?;
     if pairs_agree(sheet, k, &answer[end..length], work) {
-        output.write_all(b"PAIRS AGREE\n")?;
+        output.write_all(b"PAIRS AGREE\n")
     } else {
-        output.write_all(b"PAIRS DIFFER\n")?;
+        output.write_all(b"PAIRS DIFFER\n")
     }
-    Ok(())
 }
 
 // Writes the round and the length of a grouping, and its answer.
@@ -337,7 +297,7 @@ fn write_grouping(
     work: &mut [u32],
 ) -> io::Result<()> {
     let mut out = [0u8; 128];
-    let n = text::two_number_line(&mut out, b"CLASSES", x.round as u64, x.length as u64);
+    let n = text::number_line(&mut out, b"CLASSES", &[x.round as u64, x.length as u64]);
     output.write_all(&out[..n])?;
     write_answer(output, sheet, k, x.length, answer, work)
 }
@@ -347,21 +307,18 @@ fn write_refusal(
     output: &mut Stdout,
     sheet: &[u8],
     k: usize,
-    number: u8,
-    place: usize,
+    refused: Refused,
     work: &mut [u32],
 ) -> io::Result<()> {
-    let mut out = [0u8; 128];
-    let n = text::refused_line(&mut out, number, place);
-    output.write_all(&out[..n])?;
-    if number == 21 {
-        if pairs_agree(sheet, k, &out[..0], work) {
-            output.write_all(b"PAIRS REPORTED\n")?;
-        } else {
-            output.write_all(b"PAIRS REFUSED\n")?;
-        }
+    write_refused(output, refused)?;
+    if refused.refusal != Refusal::LargeSet {
+        return Ok(());
     }
-    Ok(())
+    if pairs_agree(sheet, k, b"", work) {
+        output.write_all(b"PAIRS REPORTED\n")
+    } else {
+        output.write_all(b"PAIRS REFUSED\n")
+    }
 }
 
 // The call for all starts, with slices no longer than these lengths.
@@ -371,10 +328,18 @@ fn group(
     numbers: usize,
     answer: &mut [u8],
     work: &mut [u32],
-) -> AllAnswer {
-    let a = small_numbers::lesser(room, answer.len());
-    let w = small_numbers::lesser(numbers, work.len());
+) -> Result<Grouped, Refused> {
+    let a = room.min(answer.len());
+    let w = numbers.min(work.len());
     all_call::compare_all(sheet, &mut answer[..a], &mut work[..w])
+}
+
+// How many starts a sheet has; none where it is refused.
+fn start_count(sheet: &[u8]) -> usize {
+    match sheet_reader::read_sheet(sheet) {
+        Ok(held) => usize::from(held.start_count),
+        Err(_) => 0,
+    }
 }
 
 // Writes what the call for all starts gives.
@@ -386,37 +351,26 @@ fn write_all_starts(
     work: &mut [u32],
 ) -> io::Result<()> {
     let mut answer = [0u8; 6690];
-    let read = sheet_reader::read_sheet(sheet);
-    let held = read.sheet;
-    let k = held.start_count as usize;
+    let k = start_count(sheet);
     output.write_all(b"\n")?;
-    let r = group(sheet, room, numbers, &mut answer, work);
-    match r {
-        AllAnswer::Classes(x) => write_grouping(output, sheet, k, x, &answer, work),
-        AllAnswer::Refused(number, place) => write_refusal(output, sheet, k, number, place, work),
+    match group(sheet, room, numbers, &mut answer, work) {
+        Ok(x) => write_grouping(output, sheet, k, x, &answer, work),
+        Err(refused) => write_refusal(output, sheet, k, refused, work),
     }
 }
 
 // Writes a verdict.
 fn write_verdict(output: &mut Stdout, verdict: Verdict) -> io::Result<()> {
     match verdict {
-        Verdict::Same => {
-            output.write_all(b"SAME")?;
-        }
-        Verdict::Diff => {
-            output.write_all(b"DIFF")?;
-        }
-        Verdict::Open => {
-            output.write_all(b"OPEN")?;
-        }
+        Verdict::Same => output.write_all(b"SAME"),
+        Verdict::Diff => output.write_all(b"DIFF"),
+        Verdict::Open => output.write_all(b"OPEN"),
     }
-    Ok(())
 }
 
 // Writes the numbers that are returned of an answer after so many rounds, and its members.
 fn write_reached(output: &mut Stdout, x: Reached, answer: &[u8]) -> io::Result<()> {
-    let verdict = x.verdict;
-    write_verdict(output, verdict)?;
+    write_verdict(output, x.verdict)?;
     write_number(output, x.classes)?;
     write_number(output, x.members)?;
     write_number(output, x.length)?;
@@ -429,22 +383,7 @@ fn write_reached(output: &mut Stdout, x: Reached, answer: &[u8]) -> io::Result<(
 
 // Whether a slice begins with the first n bytes of another.
 fn begins_with_part(s: &[u8], bytes: &[u8], n: usize) -> bool {
-    if bytes.len() < n {
-        return false;
-    }
-    begins_with(s, &bytes[..n])
-}
-
-// Whether two answers after so many rounds have the same numbers.
-fn same_numbers(r: RoundsAnswer, s: RoundsAnswer) -> bool {
-    let x = rounds_numbers::rounds_numbers(r);
-    let y = rounds_numbers::rounds_numbers(s);
-    rounds_numbers::rounds_number(r) == rounds_numbers::rounds_number(s)
-        && x[0] == y[0]
-        && x[1] == y[1]
-        && x[2] == y[2]
-        && x[3] == y[3]
-        && x[4] == y[4]
+    n <= bytes.len() && s.starts_with(&bytes[..n])
 }
 
 // Writes what the desk's call gives beside an answer after so many rounds: whether both are the same whole, or its refusal.
@@ -452,28 +391,25 @@ fn write_rounds_desk(
     output: &mut Stdout,
     sheet: &[u8],
     rounds: u64,
-    r: RoundsAnswer,
+    r: Result<Reached, Refused>,
     answer: &[u8],
     work: &mut [u32],
 ) -> io::Result<()> {
     let mut bytes = [0u8; 834];
-    let mut out = [0u8; 128];
     let desk = rounds_call::compare_rounds_desk(sheet, 0, 1, rounds, &mut bytes, work);
     match desk {
-        RoundsAnswer::After(x) => {
-            if same_numbers(desk, r) && begins_with_part(answer, &bytes, x.length) {
-                output.write_all(b"DESK AGREES\n")?;
+        Ok(x) => {
+            if desk == r && begins_with_part(answer, &bytes, x.length) {
+                output.write_all(b"DESK AGREES\n")
             } else {
-                output.write_all(b"DESK DIFFERS\n")?;
+                output.write_all(b"DESK DIFFERS\n")
             }
         }
-        RoundsAnswer::Refused(number, place) => {
-            let n = text::refused_line(&mut out, number, place);
+        Err(refused) => {
             output.write_all(b"DESK ")?;
-            output.write_all(&out[..n])?;
+            write_refused(output, refused)
         }
     }
-    Ok(())
 }
 
 // Whether a verdict is that of a report.
@@ -486,17 +422,16 @@ fn is_verdict(verdict: Verdict, same: bool) -> bool {
 }
 
 // Whether an answer has the verdict, the members and the classes of a report.
-fn is_result(r: RoundsAnswer, bytes: &[u8], s: Answer, report: &[u8]) -> bool {
-    match r {
-        RoundsAnswer::After(x) => {
-            let verdict = x.verdict;
-            match s {
-                Answer::Report(y) => is_verdict(verdict, y.same)
-                    && begins_with_part(report, bytes, x.length),
-                Answer::Refused(_, _) => false,
-            }
-        }
-        RoundsAnswer::Refused(_, _) => false,
+fn is_result(
+    r: Result<Reached, Refused>,
+    bytes: &[u8],
+    s: Result<Reported, Refused>,
+    report: &[u8],
+) -> bool {
+    match (r, s) {
+        (Ok(x), Ok(y)) => is_verdict(x.verdict, y.same)
+            && begins_with_part(report, bytes, x.length),
+        _ => false,
     }
 }
 
@@ -507,11 +442,10 @@ fn write_most(output: &mut Stdout, sheet: &[u8], work: &mut [u32]) -> io::Result
     let r = rounds_call::compare_rounds(sheet, 0, 1, MOST_ROUNDS, &mut bytes, work);
     let s = compare_call::compare(sheet, 0, 1, &mut report, work);
     if is_result(r, &bytes, s, &report) {
-        output.write_all(b"MOST AGREES\n")?;
+        output.write_all(b"MOST AGREES\n")
     } else {
-        output.write_all(b"MOST DIFFERS\n")?;
+        output.write_all(b"MOST DIFFERS\n")
     }
-    Ok(())
 }
 
 // The call for so many rounds of starts 0 and 1, with an answer slice no longer than this length.
@@ -521,8 +455,8 @@ fn round_starts(
     room: usize,
     answer: &mut [u8],
     work: &mut [u32],
-) -> RoundsAnswer {
-    let a = small_numbers::lesser(room, answer.len());
+) -> Result<Reached, Refused> {
+    let a = room.min(answer.len());
     rounds_call::compare_rounds(sheet, 0, 1, rounds, &mut answer[..a], work)
 }
 
@@ -535,21 +469,16 @@ fn write_rounds(
     work: &mut [u32],
 ) -> io::Result<()> {
     let mut answer = [0u8; 6658];
-    let mut out = [0u8; 128];
     output.write_all(b"\n")?;
     let r = round_starts(sheet, rounds as u64, room, &mut answer, work);
     match r {
-        RoundsAnswer::After(x) => {
+        Ok(x) => {
             write_reached(output, x, &answer)?;
             write_rounds_desk(output, sheet, rounds as u64, r, &answer, work)?;
-            write_most(output, sheet, work)?;
+            write_most(output, sheet, work)
         }
-        RoundsAnswer::Refused(number, place) => {
-            let n = text::refused_line(&mut out, number, place);
-            output.write_all(&out[..n])?;
-        }
+        Err(refused) => write_refused(output, refused),
     }
-    Ok(())
 }
 
 // Writes what a call gives for a sheet and two numbers: two of its starts, the lengths of the slices, or a number of rounds and the length
@@ -580,16 +509,13 @@ fn run_case(output: &mut Stdout, line: &[u8], case: Case, work: &mut [u32]) -> i
     requires { Inside line.now case }
 {
     let mut sheet = [0u8; 1024];
-    let name = case.name;
-    let until = case.until;
-    let digits = case.digits;
-    let call = case.call;
-    let parsed = case_lines::decode(&line[digits..], &mut sheet);
-    let Parsed::Is(n) = parsed else {
-        return write_malformed(output);
-    };
-    output.write_all(&line[name..until])?;
-    write_call(output, call, &sheet[..n], case.left, case.right, work)
+    match case_lines::decode(&line[case.digits..], &mut sheet) {
+        None => write_malformed(output),
+        Some(n) => {
+            output.write_all(&line[case.name..case.until])?;
+            write_call(output, case.call, &sheet[..n], case.left, case.right, work)
+        }
+    }
 }
 
 fn run_line(output: &mut Stdout, line: &[u8], work: &mut [u32]) -> io::Result<()> {

@@ -10,7 +10,6 @@ ghost use Rattle.closed_digits.specs.ClosedDigits.{closed_at, table_end, ClosedM
 
 use held_rules::hold_rules;
 use set_digits::{clear_sets, mark_all, words_of};
-use small_numbers::wide_word;
 
 // Where the digits begin, and the first place after them.
 pub const CLOSED: usize = 65;
@@ -25,12 +24,10 @@ fn mark_closed(rules: &[u16; 64], n: usize, facts: u16, work: &mut [u32])
 {
     let words = words_of(facts);
     mark_all(work, CLOSED, facts);
-    let mut i: usize = 0;
-    while i < n {
-        let premise = wide_word(rules[2 * i]);
-        let conclusion = wide_word(rules[2 * i + 1]);
+    for i in 0..n {
+        let premise = usize::from(rules[2 * i]);
+        let conclusion = usize::from(rules[2 * i + 1]);
         clear_sets(work, CLOSED, words, premise, conclusion);
-        i += 1;
     }
 }
 

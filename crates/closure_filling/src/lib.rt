@@ -20,11 +20,9 @@ fn gather(rules: &[u16; 64], n: usize, facts: u16, work: &mut [u32])
 {
     let size = sets_of(facts);
     put_rules(rules, n, work, size);
-    let mut fact: u16 = 0;
-    while fact < facts {
+    for fact in 0..facts {
         let blocks = sets_of(facts - fact - 1);
         spread_fact(work, blocks, fact);
-        fact += 1;
     }
 }
 
@@ -35,9 +33,7 @@ fn fill_by_passes(rules: &[u16; 64], n: usize, facts: u16, work: &mut [u32])
         × (drop (2 ^ facts) work.new ≡ drop (2 ^ facts) work.old) }
 {
     gather(rules, n, facts, work);
-    let mut set = sets_of(facts);
-    while 0 < set {
-        set -= 1;
+    for set in (0..sets_of(facts)).rev() {
         let t = set as u32 | work[set];
         work[set] = set as u32;
         work[set] = work[t as usize];

@@ -22,13 +22,11 @@ fn grown(rules: &[u16; 64], n: usize, set: u16) -> u16
     requires { n ≤ max_rules }
     ensures { GrownBy (rules_in rules.now n) set result }
 {
-    let mut i: usize = 0;
-    while i < n {
+    for i in 0..n {
         let t = fire(rules[2 * i], rules[2 * i + 1], set);
         if t != set {
             return t;
         }
-        i += 1;
     }
     set
 }
@@ -40,9 +38,7 @@ pub fn fill_by_rules(rules: &[u16; 64], n: usize, facts: u16, work: &mut [u32])
     ensures { Closures (rules_in rules.now n) 0 (2 ^ facts) work.new
         × (drop (2 ^ facts) work.new ≡ drop (2 ^ facts) work.old) }
 {
-    let mut s = sets_of(facts);
-    while 0 < s {
-        s -= 1;
+    for s in (0..sets_of(facts)).rev() {
         let t = grown(rules, n, s as u16);
         work[s] = s as u32;
         work[s] = work[t as usize];

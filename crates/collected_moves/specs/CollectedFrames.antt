@@ -2,10 +2,10 @@
 use Rattle.std.specs.Prelude.{◌≡◌, ◌⊎◌, ℕ, ◌+◌, ◌/◌, ◌%◌, ◌≤◌}
 use Rattle.std.proofs.Common.{sym, ap, ◌∙◌, subst, arith}
 use mathlib.Core.List.{List, map, Memᴰ}
-use Rattle.number_lists.specs.Lists.{Ascends}
-use Rattle.number_lists.specs.Frames.{SameOutside, outside_wider}
-use Rattle.number_lists.specs.AscendingLaws.{number_order}
-use Rattle.number_lists.specs.NumberLaws.{numbers_outside}
+use Rattle.member_table.specs.Lists.{Ascends}
+use Rattle.member_table.specs.Frames.{SameOutside, outside_wider}
+use Rattle.member_table.specs.AscendingLaws.{number_order}
+use Rattle.member_table.specs.NumberLaws.{numbers_outside}
 use Rattle.member_table.specs.MemberTable.{member_in, members_in, id_in}
 use Rattle.member_table.specs.TableInPart.{part_outside, kept_outside}
 use Rattle.collected_moves.specs.declared.Caps.{Caps}

@@ -4,12 +4,12 @@ use Rattle.std.specs.Prelude.{◌≡◌, refl, ℕ, ◌+◌, ◌*◌, ◌/◌, �
 use Rattle.std.proofs.Common.{sym, ap, ◌∙◌, subst, arith}
 use mathlib.Core.List.Memᴰ
 use mathlib.Core.List.{List, [], map, Memᴰ}
-use Rattle.number_lists.specs.Members.{mem_map, map_mem}
-use Rattle.number_lists.specs.Tabulate.{tabulate_same, tabulate_at}
-use Rattle.number_lists.specs.Frames.{outside_same, outside_again}
+use Rattle.member_table.specs.Members.{mem_map, map_mem}
+use Rattle.member_table.specs.Tabulate.{tabulate_same, tabulate_at}
+use Rattle.member_table.specs.Frames.{outside_same, outside_again}
 use Rattle.member_table.specs.Sheet.{Configuration}
 use Rattle.member_table.specs.Orders.{Move}
-use Rattle.number_lists.specs.NumberLaws.{numbers_none, numbers_none_ascend}
+use Rattle.member_table.specs.NumberLaws.{numbers_none, numbers_none_ascend}
 use Rattle.member_table.specs.MemberTable.{member_in, members_in, Kept}
 use Rattle.member_table.specs.MemberLaws.{member_id}
 use Rattle.collected_moves.specs.declared.Caps.{Caps}

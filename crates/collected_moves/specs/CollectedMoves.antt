@@ -1,17 +1,16 @@
 -- Members and moves in the work slice while the moves of one member are collected.
 use Rattle.std.specs.Prelude.{◌≡◌, ◌⊎◌, ℕ, ◌+◌, ◌/◌, ◌%◌, ◌≤◌, ◌<◌, length}
 use mathlib.Core.List.{List, map, Memᴰ}
-use Rattle.number_lists.specs.Lists.{Ascends}
-use Rattle.number_lists.specs.Frames.{SameOutside}
+use Rattle.member_table.specs.Lists.{Ascends}
+use Rattle.member_table.specs.Frames.{SameOutside}
 use Rattle.member_table.specs.Sheet.{Configuration}
 use Rattle.member_table.specs.Orders.{Move}
-use Rattle.number_lists.specs.AscendingLaws.{number_order}
-use Rattle.number_lists.specs.NumberLists.{numbers_in}
+use Rattle.member_table.specs.AscendingLaws.{number_order}
+use Rattle.member_table.specs.NumberLists.{numbers_in}
 use Rattle.member_table.specs.MemberTable.{member_in, members_in, id_in, part_at, Kept}
 use Rattle.collected_moves.specs.declared.Caps.{Caps}
 use Rattle.collected_moves.specs.declared.Running.{Running}
-use Rattle.collected_moves.specs.declared.Noted.{Noted}
-use Rattle.collected_moves.specs.declared.Noted.TheVariants.{On, Over}
+use Rattle.std.specs.Prelude.{Option, Some, None}
 use Rattle.member_table.specs.WorkLayout.{work_end, table_length, moves_at, members_at, member_room, move_room}
 use Rattle.member_table.specs.SheetLimits.{max_threads}
 
@@ -72,9 +71,9 @@ pub record NoRoom (v : List ℕ) (first : ℕ) (s : Running) (l : Caps) (m : Mov
   pub inside : SameOutside (moves_at + first) (members_at + table_length) v w
 
 -- what noting a move gives
-abbrev pub NotedAs : List ℕ → ℕ → Running → Caps → Move → List ℕ → Noted → Type 0
-NotedAs v first s l m w (On t) = NotedOn v first s l m w t
-NotedAs v first s l m w Over = NoRoom v first s l m w
+abbrev pub NotedAs : List ℕ → ℕ → Running → Caps → Move → List ℕ → Option Running → Type 0
+NotedAs v first s l m w (Some t) = NotedOn v first s l m w t
+NotedAs v first s l m w None = NoRoom v first s l m w
 
 -- a member was entered: no other member and no move came in
 pub record EnteredOn (v : List ℕ) (first : ℕ) (s : Running) (l : Caps) (p : Configuration) (w : List ℕ) (t : Running) : Type 0 where
@@ -92,6 +91,6 @@ pub record NoRoomFor (v : List ℕ) (s : Running) (l : Caps) (p : Configuration)
   pub inside : SameOutside members_at (members_at + table_length) v w
 
 -- what entering a member gives
-abbrev pub EnteredAs : List ℕ → ℕ → Running → Caps → Configuration → List ℕ → Noted → Type 0
-EnteredAs v first s l p w (On t) = EnteredOn v first s l p w t
-EnteredAs v first s l p w Over = NoRoomFor v s l p w
+abbrev pub EnteredAs : List ℕ → ℕ → Running → Caps → Configuration → List ℕ → Option Running → Type 0
+EnteredAs v first s l p w (Some t) = EnteredOn v first s l p w t
+EnteredAs v first s l p w None = NoRoomFor v s l p w

@@ -3,17 +3,16 @@
 use Rattle.std.specs.Prelude.{◌≡◌, refl, ◌⊎◌, Bool, cond, ℕ, ◌+◌, ◌*◌, ◌-◌, ◌%◌, ◌≤◌, ◌<◌, min}
 use Rattle.std.proofs.Common.{sym, ap, ap₂, ◌∙◌, subst, inl, inr, ⊎_elim, arith, eq-eqb, ne_eqb}
 use mathlib.Core.List.{List, map, Memᴰ}
-use Rattle.number_lists.specs.Lists.{Ascends}
-use Rattle.number_lists.specs.Members.{mem_map, map_mem}
-use Rattle.number_lists.specs.Frames.{SameOutside, outside_wider, outside_then, outside_part}
+use Rattle.member_table.specs.Lists.{Ascends}
+use Rattle.member_table.specs.Members.{mem_map, map_mem}
+use Rattle.member_table.specs.Frames.{SameOutside, outside_wider, outside_then, outside_part}
 use Rattle.member_table.specs.Sheet.{Configuration}
 use Rattle.member_table.specs.Orders.{Move}
-use Rattle.number_lists.specs.AscendingLaws.{number_order}
-use Rattle.number_lists.specs.NumberLaws.{numbers_outside}
-use Rattle.number_lists.specs.Entered as put
-use Rattle.number_lists.specs.EnteredLaws as put-laws
-use Rattle.number_lists.specs.declared.Put.{Put}
-use Rattle.number_lists.specs.declared.Put.TheVariants.{Until, Full}
+use Rattle.member_table.specs.AscendingLaws.{number_order}
+use Rattle.member_table.specs.NumberLaws.{numbers_outside}
+use Rattle.member_table.specs.Entered as put
+use Rattle.member_table.specs.EnteredLaws as put-laws
+use Rattle.std.specs.Prelude.{Option, Some, None}
 use Rattle.member_table.specs.MemberTable.{member_in, members_in, id_in, Kept}
 use Rattle.member_table.specs.EntryFound.{EnteredIn}
 use Rattle.member_table.specs.MemberLaws.{entered_itself, entered_only}
@@ -175,11 +174,11 @@ module _ (v u w : List ℕ) (first : ℕ) (s : Running) (l : Caps) (label : ℕ)
       (subst (put.Entered u (moves_at + first) (moves_at + s.moves) (moves_at + l.moves) (label * 65536 + id) w) z b)
 
 -- ---- the answer of putting a number taken apart
-module _ {u : List ℕ} {from end limit y : ℕ} {w : List ℕ} {r : Put} where
-  pub put_until : {e : ℕ} → r ≡ Until e → put.PutIs u from end limit y w r → put.Entered u from end limit y w e
+module _ {u : List ℕ} {from end limit y : ℕ} {w : List ℕ} {r : Option ℕ} where
+  pub put_until : {e : ℕ} → r ≡ Some e → put.PutIs u from end limit y w r → put.Entered u from end limit y w e
   put_until e h = subst (put.PutIs u from end limit y w) e h
 
-  pub put_full : r ≡ Full → put.PutIs u from end limit y w r → put.NoRoom u from end limit y w
+  pub put_full : r ≡ None → put.PutIs u from end limit y w r → put.NoRoom u from end limit y w
   put_full e h = subst (put.PutIs u from end limit y w) e h
 
 -- ---- no room

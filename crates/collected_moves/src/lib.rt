@@ -16,10 +16,3 @@ pub struct Running {
     pub moves: usize,
     pub low: usize,
 }
-
-// The numbers after a move was noted, or that a cap is passed.
-#[derive(Drop)]
-pub enum Noted {
-    On(Running),
-    Over,
-}

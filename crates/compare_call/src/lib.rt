@@ -4,13 +4,14 @@
 
 ghost use Rattle.std.specs.Prelude.{length};
 ghost use Rattle.answers.specs.Call.{compare_with, compare, compare_desk};
+ghost use Rattle.answers.specs.OutcomeOf.{outcome_of};
 ghost use Rattle.call_frame.specs.Seeds.{CapsFit};
 ghost use Rattle.call_frame.specs.FoundSet.{limits_of};
 ghost use Rattle.compare_call.specs.Compared.{Compared};
 
-use answers::Answer;
-use call_frame::Begun;
+use answers::Reported;
 use collected_moves::Caps;
+use refusals::Refused;
 
 // The call with caps that are given.
 fn compare_within(
@@ -20,24 +21,23 @@ fn compare_within(
     answer: &mut [u8],
     work: &mut [u32],
     caps: Caps,
-) -> Answer
+) -> Result<Reported, Refused>
     requires { CapsFit caps }
     ensures { Compared (compare_with (limits_of caps) sheet.now left right
         (length work.old) (length answer.old))
-        work.old answer.old work.new answer.new result }
+        work.old answer.old work.new answer.new (outcome_of result) }
 {
-    let started = call_frame::begin_pair(sheet, left, right, work, caps);
-    let begun = started.begun;
-    match begun {
-        Begun::Refused(number, place) => Answer::Refused(number, place),
-        Begun::Set(n, m) => {
-            let p = started.left;
-            let q = started.right;
-            let r = set_report::report_set(work, answer, n, m, p, q);
-            work_layout::clear_work(work);
-            r
-        }
-    }
+    let set = call_frame::begin_pair(sheet, left, right, work, caps)?;
+    let answered = set_report::report_set(
+        work,
+        answer,
+        set.size.members,
+        set.size.moves,
+        set.left,
+        set.right,
+    );
+    work_layout::clear_work(work);
+    answered
 }
 
 // Document 01's call.
@@ -47,10 +47,10 @@ pub fn compare(
     right: usize,
     answer: &mut [u8],
     work: &mut [u32],
-) -> Answer
+) -> Result<Reported, Refused>
     ensures { Compared (compare sheet.now left right
         (length work.old) (length answer.old))
-        work.old answer.old work.new answer.new result }
+        work.old answer.old work.new answer.new (outcome_of result) }
 {
     compare_within(
         sheet,
@@ -69,10 +69,10 @@ pub fn compare_desk(
     right: usize,
     answer: &mut [u8],
     work: &mut [u32],
-) -> Answer
+) -> Result<Reported, Refused>
     ensures { Compared (compare_desk sheet.now left right
         (length work.old) (length answer.old))
-        work.old answer.old work.new answer.new result }
+        work.old answer.old work.new answer.new (outcome_of result) }
 {
     compare_within(sheet, left, right, answer, work, call_seeds::desk_caps())
 }

@@ -10,26 +10,14 @@ ghost use Rattle.closure_table.specs.SheetLimits.{max_rules, max_facts};
 
 use closure_table::sets_of;
 
-// No fact in the entry of any set.
-fn clear_sets(work: &mut [u32], size: usize)
-    requires { size ≤ length work.old }
-    ensures { work.new ≡ replicate size 0 ++ drop size work.old }
-{
-    let mut s: usize = 0;
-    while s < size {
-        work[s] = 0;
-        s += 1;
-    }
-}
-
 // The conclusion added to the entry of the premise, where that is a set of the table.
 fn put_rule(work: &mut [u32], size: usize, premise: u16, conclusion: u16)
     requires { size ≤ length work.old }
     ensures { work.new ≡ put_rule size premise conclusion work.old }
 {
-    let p = premise as usize;
+    let p = usize::from(premise);
     if p < size {
-        work[p] = work[p] | conclusion as u32;
+        work[p] |= u32::from(conclusion);
     }
 }
 
@@ -39,11 +27,9 @@ pub fn put_rules(rules: &[u16; 64], n: usize, work: &mut [u32], size: usize)
     ensures { ConclusionsGathered (rules_in rules.now n) 0 size work.new
         × SameOutside 0 size work.old work.new }
 {
-    clear_sets(work, size);
-    let mut i: usize = 0;
-    while i < n {
+    work[..size].fill(0);
+    for i in 0..n {
         put_rule(work, size, rules[2 * i], rules[2 * i + 1]);
-        i += 1;
     }
 }
 
@@ -52,10 +38,8 @@ fn spread_block(work: &mut [u32], from: usize, half: usize)
     requires { (from + 2 * half ≤ length work.old) × (from + 2 * half ≤ 2 ^ max_facts) }
     ensures { United from half half work.old work.new }
 {
-    let mut k: usize = 0;
-    while k < half {
-        work[from + half + k] = work[from + half + k] | work[from + k];
-        k += 1;
+    for k in 0..half {
+        work[from + half + k] |= work[from + k];
     }
 }
 
@@ -65,39 +49,35 @@ fn spread(work: &mut [u32], blocks: usize, fact: u16)
     ensures { Spread fact (2 * blocks * 2 ^ fact) work.old work.new }
 {
     let half = sets_of(fact);
-    let mut q: usize = 0;
-    while q < blocks {
+    for q in 0..blocks {
         spread_block(work, 2 * q * half, half);
-        q += 1;
     }
 }
 
 // The same for fact 0: each entry at an odd place, with the one before it.
+// Kept a loop of its own: the compiler makes vector code of it.
 fn spread_pairs(work: &mut [u32], blocks: usize)
     requires { (blocks ≤ 2048) × (2 * blocks ≤ length work.old) }
     ensures { Spread 0 (2 * blocks * 2 ^ 0) work.old work.new }
 {
-    let mut q: usize = 0;
-    while q < blocks {
-        work[2 * q + 1] = work[2 * q + 1] | work[2 * q];
-        q += 1;
+    for q in 0..blocks {
+        work[2 * q + 1] |= work[2 * q];
     }
 }
 
 // The same for fact 1: the last two of each four entries, with the first two.
+// Kept a loop of its own: the compiler makes vector code of it.
 fn spread_fours(work: &mut [u32], blocks: usize)
     requires { (blocks ≤ 1024) × (4 * blocks ≤ length work.old) }
     ensures { Spread 1 (2 * blocks * 2 ^ 1) work.old work.new }
 {
-    let mut q: usize = 0;
-    while q < blocks {
-        work[4 * q + 2] = work[4 * q + 2] | work[4 * q];
-        work[4 * q + 3] = work[4 * q + 3] | work[4 * q + 1];
-        q += 1;
+    for q in 0..blocks {
+        work[4 * q + 2] |= work[4 * q];
+        work[4 * q + 3] |= work[4 * q + 1];
     }
 }
 
-// The same for any fact. Short blocks have loops of their own, which the compiler makes vector code of.
+// The same for any fact.
 pub fn spread_fact(work: &mut [u32], blocks: usize, fact: u16)
     requires { (fact < max_facts) × (blocks ≤ 2 ^ max_facts) × (2 * blocks * 2 ^ fact ≤ length work.old) × (2 * blocks * 2 ^ fact ≤ 2 ^ max_facts) }
     ensures { Spread fact (2 * blocks * 2 ^ fact) work.old work.new }

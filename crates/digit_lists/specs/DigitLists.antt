@@ -1,5 +1,5 @@
 -- The marked sets with so many facts, word by word.
-use Rattle.std.specs.Prelude.{◌≡◌, ◌&&◌, List, ℕ, ◌+◌, ◌*◌, ◌%◌, ◌≤◌, ◌<◌, min, eqb}
+use Rattle.std.specs.Prelude.{◌≡◌, ◌&&◌, List, ℕ, ◌+◌, ◌*◌, ◌%◌, ◌≤◌, ◌<◌, min, eqb, Option, Some, None}
 use Rattle.place_sets.specs.Lists.{select}
 use Rattle.set_digits.specs.FactSets.{digit}
 use Rattle.set_digits.specs.Moves.{count_up}
@@ -16,14 +16,21 @@ pub record FirstLayer (x r : ℕ) : Type 0 where
   pub below : (p : ℕ) → p < 32 → digit x p ≡ 1 → r ≤ fact_count 5 p
   pub some : (p : ℕ) × (p < 32) × (digit x p ≡ 1) × (fact_count 5 p ≡ r)
 
--- r is the lesser of `least` and the least number of facts of a set of word i whose digit in x is 1
-abbrev pub LesserSize : ℕ → ℕ → ℕ → ℕ → Type 0
-LesserSize x i least r = (j : ℕ) × FirstLayer x j × (r ≡ min (fact_count 16 i + j) least)
+-- the lesser of k and another number, where there is one
+abbrev pub lesser : ℕ → Option ℕ → ℕ
+lesser k (Some l) = min k l
+lesser k None = k
 
--- r is the least number of facts of a marked set, or 17 where none is marked
-pub record LeastSize (w : List ℕ) (left words r : ℕ) : Type 0 where
-  pub below : (s : ℕ) → s < 32 * words → mark w left s ≡ 1 → r ≤ fact_count 16 s
-  pub some : r ≤ 16 → (s : ℕ) × (s < 32 * words) × (mark w left s ≡ 1) × (fact_count 16 s ≡ r)
+-- r is the lesser of `least` and the least number of facts of a set of word i whose digit in x is 1
+abbrev pub LesserSize : ℕ → ℕ → Option ℕ → ℕ → Type 0
+LesserSize x i least r = (j : ℕ) × FirstLayer x j × (r ≡ lesser (fact_count 16 i + j) least)
+
+-- the least number of facts of a marked set, or none where none is marked
+abbrev pub LeastSize : List ℕ → ℕ → ℕ → Option ℕ → Type 0
+LeastSize w left words (Some r) =
+    ((s : ℕ) → s < 32 * words → mark w left s ≡ 1 → r ≤ fact_count 16 s)
+    × ((s : ℕ) × (s < 32 * words) × (mark w left s ≡ 1) × (fact_count 16 s ≡ r))
+LeastSize w left words None = (s : ℕ) → s < 32 * words → mark w left s ≡ 1 → ⊥
 
 -- the sets of word i whose digit in x is 1, in ascending order
 unfoldable pub word_sets : ℕ → ℕ → List ℕ

@@ -1,5 +1,5 @@
 -- The least number of facts: of the places of a word, layer by layer, and of the marked sets, word by word.
-use Rattle.std.specs.Prelude.{◌≡◌, List, ℕ, ◌+◌, ◌*◌, ◌/◌, ◌%◌, ◌^◌, ◌≤◌, ◌<◌, min, eqb, ltb, get_or}
+use Rattle.std.specs.Prelude.{◌≡◌, List, ℕ, ◌+◌, ◌*◌, ◌/◌, ◌%◌, ◌^◌, ◌≤◌, ◌<◌, min, eqb, ltb, get_or, Option, Some, None}
 use Rattle.std.proofs.Common.{sym, ap, ap₂, ◌∙◌, arith, eqb-true, ltb-true, ltb-false}
 use Rattle.std.specs.Int.Bits.{bit_and}
 use Rattle.std.proofs.lemmas.Nat.{and_le_l}
@@ -12,7 +12,7 @@ use Rattle.place_sets.specs.DigitLaws.{lowest, digit_le}
 use Rattle.set_digits.specs.OrderedSearch.{fact_count}
 use Rattle.set_digits.specs.SizeLaws.{count_most}
 use Rattle.set_digits.specs.SetDigits.{bit, mark}
-use Rattle.digit_lists.specs.DigitLists.{PlacesOfSize, FirstLayer, LeastSize}
+use Rattle.digit_lists.specs.DigitLists.{PlacesOfSize, FirstLayer, LeastSize, lesser}
 use Rattle.digit_lists.specs.SizesInWord.{count_in_word}
 
 -- ---- the places of a word
@@ -55,56 +55,68 @@ layer_last x j fewer e more h =
 
 -- ---- the marked sets
 -- of no word
-pub least_none : (w : List ℕ) (left : ℕ) → LeastSize w left 0 17
-least_none w left = record { below = λ s h m. absurd (omega arith); some = λ h. absurd (omega arith) }
+pub least_none : (w : List ℕ) (left : ℕ) → LeastSize w left 0 None
+least_none w left = λ s h m. absurd (omega arith)
 
-module _ (w : List ℕ) (left i r : ℕ) (least : LeastSize w left i r) where
+module _ (w : List ℕ) (left i : ℕ) where
   -- of one more word, which is empty
-  pub least_empty : get_or w (left + i) 0 ≡ 0 → LeastSize w left (i + 1) r
-  least_empty e =
-      record {
-        below = λ s h m. go s h m (tested (ltb s (32 * i)));
-        some = λ h. let a = least.some h in (a.0, omega (arith, a.1), a.2, a.3);
-      }
+  pub least_empty : (r : Option ℕ) → LeastSize w left i r → get_or w (left + i) 0 ≡ 0 → LeastSize w left (i + 1) r
+  least_empty r least e = go r least
     where
-      go : (s : ℕ) → s < 32 * (i + 1) → mark w left s ≡ 1 → Tested (ltb s (32 * i)) → r ≤ fact_count 16 s
-      go s h m (passes t) = least.below s (ltb-true s (32 * i) t) m
-      go s h m (fails t) =
+      lower : (s : ℕ) → s < 32 * (i + 1) → mark w left s ≡ 1 → Tested (ltb s (32 * i)) → s < 32 * i
+      lower s h m (passes t) = ltb-true s (32 * i) t
+      lower s h m (fails t) =
           let word : s / 32 ≡ i = omega (arith, ltb-false s (32 * i) t) in
           let no : mark w left s ≡ 0 =
           ap (λ (j : ℕ). digit (get_or w (left + j) 0) (s % 32)) word ∙ ap (λ (x : ℕ). digit x (s % 32)) e ∙ zero_digit (s % 32) in
           absurd (omega arith)
 
-  -- of one more word, which is not
-  pub least_word : (j : ℕ) → i < 2 ^ 11 → FirstLayer (get_or w (left + i) 0) j → LeastSize w left (i + 1) (min (fact_count 16 i + j) r)
-  least_word j few first =
-      record {
-        below = λ s h m. go s h m (tested (ltb s (32 * i)));
-        some = λ h. has h (tested (ltb (fact_count 16 i + j) r));
-      }
-    where
-      go : (s : ℕ) → s < 32 * (i + 1) → mark w left s ≡ 1 → Tested (ltb s (32 * i)) → min (fact_count 16 i + j) r ≤ fact_count 16 s
-      go s h m (passes t) = omega (arith, least.below s (ltb-true s (32 * i) t) m)
-      go s h m (fails t) =
-          let word : s / 32 ≡ i = omega (arith, ltb-false s (32 * i) t) in
-          let whole : s ≡ 32 * i + s % 32 = omega arith in
-          let one : digit (get_or w (left + i) 0) (s % 32) ≡ 1 = sym (ap (λ (k : ℕ). digit (get_or w (left + k) 0) (s % 32)) word) ∙ m in
-          let count : fact_count 16 s ≡ fact_count 16 i + fact_count 5 (s % 32) =
-          ap (fact_count 16) whole ∙ count_in_word i (s % 32) few (omega arith) in
-          omega (arith, count, first.below (s % 32) (omega arith) one)
+      go : (r : Option ℕ) → LeastSize w left i r → LeastSize w left (i + 1) r
+      go (Some r) h =
+          let a = h.1 in
+          (λ s l m. h.0 s (lower s l m (tested (ltb s (32 * i)))) m, (a.0, omega (arith, a.1), a.2, a.3))
+      go None h = λ s l m. h s (lower s l m (tested (ltb s (32 * i)))) m
 
-      has : min (fact_count 16 i + j) r ≤ 16 → Tested (ltb (fact_count 16 i + j) r)
-          → (s : ℕ) × (s < 32 * (i + 1)) × (mark w left s ≡ 1) × (fact_count 16 s ≡ min (fact_count 16 i + j) r)
-      has h (passes t) =
-          let a = first.some in
-          let p : ℕ = a.0 in
-          let word : (32 * i + p) / 32 ≡ i = omega (arith, a.1) in
-          let place : (32 * i + p) % 32 ≡ p = omega (arith, a.1) in (
-            32 * i + p,
-            omega (arith, a.1),
-            ap₂ (λ (k q : ℕ). digit (get_or w (left + k) 0) q) word place ∙ a.2,
-            omega (arith, count_in_word i p few a.1, a.3, ltb-true (fact_count 16 i + j) r t),
-          )
-      has h (fails t) =
-          let l : r ≤ fact_count 16 i + j = ltb-false (fact_count 16 i + j) r t in
-          let a = least.some (omega arith) in (a.0, omega (arith, a.1), a.2, omega (arith, a.3))
+  module _ (j : ℕ) (few : i < 2 ^ 11) (first : FirstLayer (get_or w (left + i) 0) j) where
+    -- a marked set of the word has no fewer facts
+    word_below : (s : ℕ) → 32 * i ≤ s → s < 32 * (i + 1) → mark w left s ≡ 1 → fact_count 16 i + j ≤ fact_count 16 s
+    word_below s l h m =
+        let word : s / 32 ≡ i = omega arith in
+        let whole : s ≡ 32 * i + s % 32 = omega arith in
+        let one : digit (get_or w (left + i) 0) (s % 32) ≡ 1 = sym (ap (λ (k : ℕ). digit (get_or w (left + k) 0) (s % 32)) word) ∙ m in
+        let count : fact_count 16 s ≡ fact_count 16 i + fact_count 5 (s % 32) =
+        ap (fact_count 16) whole ∙ count_in_word i (s % 32) few (omega arith) in
+        omega (arith, count, first.below (s % 32) (omega arith) one)
+
+    -- and one has so many
+    word_some : (s : ℕ) × (s < 32 * (i + 1)) × (mark w left s ≡ 1) × (fact_count 16 s ≡ fact_count 16 i + j)
+    word_some =
+        let a = first.some in
+        let p : ℕ = a.0 in
+        let word : (32 * i + p) / 32 ≡ i = omega (arith, a.1) in
+        let place : (32 * i + p) % 32 ≡ p = omega (arith, a.1) in (
+          32 * i + p,
+          omega (arith, a.1),
+          ap₂ (λ (k q : ℕ). digit (get_or w (left + k) 0) q) word place ∙ a.2,
+          count_in_word i p few a.1 ∙ ap (λ (m : ℕ). fact_count 16 i + m) a.3,
+        )
+
+    -- of one more word, which is not empty
+    pub least_word : (r : Option ℕ) → LeastSize w left i r → LeastSize w left (i + 1) (Some (lesser (fact_count 16 i + j) r))
+    least_word (Some r) h = (λ s l m. below s l m (tested (ltb s (32 * i))), some (tested (ltb (fact_count 16 i + j) r)))
+      where
+        below : (s : ℕ) → s < 32 * (i + 1) → mark w left s ≡ 1 → Tested (ltb s (32 * i)) → min (fact_count 16 i + j) r ≤ fact_count 16 s
+        below s l m (passes t) = omega (arith, h.0 s (ltb-true s (32 * i) t) m)
+        below s l m (fails t) = omega (arith, word_below s (ltb-false s (32 * i) t) l m)
+
+        some : Tested (ltb (fact_count 16 i + j) r)
+            → (s : ℕ) × (s < 32 * (i + 1)) × (mark w left s ≡ 1) × (fact_count 16 s ≡ min (fact_count 16 i + j) r)
+        some (passes t) =
+            let a = word_some in (a.0, a.1, a.2, omega (arith, a.3, ltb-true (fact_count 16 i + j) r t))
+        some (fails t) =
+            let a = h.1 in (a.0, omega (arith, a.1), a.2, omega (arith, a.3, ltb-false (fact_count 16 i + j) r t))
+    least_word None h = (λ s l m. below s l m (tested (ltb s (32 * i))), word_some)
+      where
+        below : (s : ℕ) → s < 32 * (i + 1) → mark w left s ≡ 1 → Tested (ltb s (32 * i)) → fact_count 16 i + j ≤ fact_count 16 s
+        below s l m (passes t) = absurd (h s (ltb-true s (32 * i) t) m)
+        below s l m (fails t) = word_below s (ltb-false s (32 * i) t) l m

@@ -1,6 +1,9 @@
 -- How many facts a set has, by the facts of its parts.
 use Rattle.std.specs.Prelude.{◌≡◌, refl, ℕ, zero, suc, ◌+◌, ◌-◌, ◌*◌, ◌/◌, ◌%◌, ◌^◌, ◌≤◌, ◌<◌}
 use Rattle.std.proofs.Common.{sym, ap, ap₂, ◌∙◌, suc-add, zero-add, mod-eq_of_lt, arith, shr-shr}
+use Rattle.std.proofs.Common.{add-one, pow-suc}
+use Rattle.std.specs.Int.Count.{ones, ones_step}
+use Rattle.std.proofs.lemmas.Nat.{ones-le}
 use Rattle.std.proofs.Math.Nat.{div-eq_of_lt}
 use Rattle.std.proofs.Math.Pow.{field, mod-mod-pow, high, low}
 use Rattle.set_digits.specs.FactSets.{digit}
@@ -49,3 +52,14 @@ count_wider n m s h l =
     ∙ count_split n (m - n) s
     ∙ ap₂ (λ (x y : ℕ). fact_count (m - n) x + fact_count n y) (div-eq_of_lt l) (mod-eq_of_lt l)
     ∙ omega (arith, count_empty (m - n))
+
+-- a set has as many facts as its number has digits 1
+pub ones_count : (n s : ℕ) → s < 2 ^ n → ones s ≡ fact_count n s
+unfolding fact_count digit
+ones_count zero s h = omega (arith, ones-le 0 s h)
+ones_count (suc n) s h =
+    let half : ones (s / 2) ≡ fact_count n (s / 2) = ones_count n (s / 2) (omega (arith, pow-suc 2 n)) in
+    let split : fact_count (n + 1) s ≡ fact_count n (s / 2) + fact_count 1 (s % 2) = count_split 1 n s in
+    let more : fact_count (n + 1) s ≡ fact_count (suc n) s = ap (λ (k : ℕ). fact_count k s) (add-one n) in
+    let last : fact_count 1 (s % 2) ≡ s % 2 = omega arith in
+    ones_step s ∙ omega (arith, half, split, last) ∙ more

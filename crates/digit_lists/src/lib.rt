@@ -8,18 +8,6 @@ ghost use Rattle.set_digits.specs.SheetLimits.{max_facts};
 ghost use Rattle.set_digits.specs.SetDigits.{words_of};
 ghost use Rattle.digit_lists.specs.DigitLists.{PlacesOfSize, FirstLayer, LesserSize, LeastSize, SizeInWord, word_sets, marked_of_size};
 
-// How many digits 1 a byte has.
-const COUNTS: [u8; 256] = [
-    0, 1, 1, 2, 1, 2, 2, 3, 1, 2, 2, 3, 2, 3, 3, 4, 1, 2, 2, 3, 2, 3, 3, 4, 2, 3, 3, 4, 3, 4, 4, 5,
-    1, 2, 2, 3, 2, 3, 3, 4, 2, 3, 3, 4, 3, 4, 4, 5, 2, 3, 3, 4, 3, 4, 4, 5, 3, 4, 4, 5, 4, 5, 5, 6,
-    1, 2, 2, 3, 2, 3, 3, 4, 2, 3, 3, 4, 3, 4, 4, 5, 2, 3, 3, 4, 3, 4, 4, 5, 3, 4, 4, 5, 4, 5, 5, 6,
-    2, 3, 3, 4, 3, 4, 4, 5, 3, 4, 4, 5, 4, 5, 5, 6, 3, 4, 4, 5, 4, 5, 5, 6, 4, 5, 5, 6, 5, 6, 6, 7,
-    1, 2, 2, 3, 2, 3, 3, 4, 2, 3, 3, 4, 3, 4, 4, 5, 2, 3, 3, 4, 3, 4, 4, 5, 3, 4, 4, 5, 4, 5, 5, 6,
-    2, 3, 3, 4, 3, 4, 4, 5, 3, 4, 4, 5, 4, 5, 5, 6, 3, 4, 4, 5, 4, 5, 5, 6, 4, 5, 5, 6, 5, 6, 6, 7,
-    2, 3, 3, 4, 3, 4, 4, 5, 3, 4, 4, 5, 4, 5, 5, 6, 3, 4, 4, 5, 4, 5, 5, 6, 4, 5, 5, 6, 5, 6, 6, 7,
-    3, 4, 4, 5, 4, 5, 5, 6, 4, 5, 5, 6, 5, 6, 6, 7, 4, 5, 5, 6, 5, 6, 6, 7, 5, 6, 6, 7, 6, 7, 7, 8,
-];
-
 // For each number of facts the places of a word that have so many.
 const LAYERS: [u32; 6] = [1, 65814, 18224744, 375941248, 1753251840, 2147483648];
 
@@ -28,7 +16,7 @@ pub fn fact_count(s: usize) -> usize
     requires { s < 65536 }
     ensures { result ≡ fact_count 16 s }
 {
-    COUNTS[s % 256] as usize + COUNTS[s / 256] as usize
+    s.count_ones() as usize
 }
 
 // The places of a word that have j facts.
@@ -44,38 +32,34 @@ fn first_layer(x: u32) -> usize
     requires { 0 < x }
     ensures { FirstLayer x result }
 {
-    let mut j: usize = 0;
-    while j < 5 {
+    for j in 0..5 {
         if x & layer(j) != 0 {
             return j;
         }
-        j += 1;
     }
-    j
+    5
 }
 
-// The lesser of a number and the least number of facts of a marked set of word i.
-fn lesser_size(x: u32, i: usize, least: usize) -> usize
+// The least number of facts of a marked set of word i, or that of the words before it where that is less.
+fn lesser_size(x: u32, i: usize, least: Option<usize>) -> usize
     requires { (0 < x) × (i < words_of max_facts) }
     ensures { LesserSize x i least result }
 {
     let k = fact_count(i) + first_layer(x);
-    if k < least { k } else { least }
+    least.map_or(k, |l| k.min(l))
 }
 
-// The least number of facts of a marked set; 17 where none is marked.
-pub fn least_size(work: &[u32], left: usize, words: usize) -> usize
+// The least number of facts of a marked set, where one is marked.
+pub fn least_size(work: &[u32], left: usize, words: usize) -> Option<usize>
     requires { (words ≤ words_of max_facts) × (left + words ≤ length work.now) }
     ensures { LeastSize work.now left words result }
 {
-    let mut least: usize = 17;
-    let mut i: usize = 0;
-    while i < words {
+    let mut least = None;
+    for i in 0..words {
         let x = work[left + i];
         if x != 0 {
-            least = lesser_size(x, i, least);
+            least = Some(lesser_size(x, i, least));
         }
-        i += 1;
     }
     least
 }
@@ -89,9 +73,9 @@ fn list_word(work: &mut [u32], i: usize, x: u32, at: usize, n: usize) -> usize
     let mut rest = x;
     let mut m = n;
     while rest != 0 {
-        work[at + m] = (32 * i) as u32 + u32::trailing_zeros(rest);
+        work[at + m] = (32 * i) as u32 + rest.trailing_zeros();
         m += 1;
-        rest = rest & (rest - 1);
+        rest &= rest - 1;
     }
     m
 }
@@ -126,14 +110,12 @@ pub fn list_marked(
         × SameOutside (at + n) (at + result) work.old work.new }
 {
     let mut m = n;
-    let mut i: usize = 0;
-    while i < words {
+    for i in 0..words {
         let x = work[left + i];
         if x != 0 {
             let y = size_in_word(x, i, k);
             m = list_word(work, i, y, at, m);
         }
-        i += 1;
     }
     m
 }

@@ -21,11 +21,11 @@ fn down_once(x: u32, having: u32, step: u32) -> u32
 fn spread_word(x: u32) -> u32
     ensures { WordSpread x result }
 {
-    let a = down_once(x, 2863311530, 2);
-    let b = down_once(a, 3435973836, 4);
-    let c = down_once(b, 4042322160, 16);
-    let d = down_once(c, 4278255360, 256);
-    down_once(d, 4294901760, 65536)
+    let a = down_once(x, 0xaaaa_aaaa, 2);
+    let b = down_once(a, 0xcccc_cccc, 4);
+    let c = down_once(b, 0xf0f0_f0f0, 16);
+    let d = down_once(c, 0xff00_ff00, 256);
+    down_once(d, 0xffff_0000, 65536)
 }
 
 // In each word.
@@ -33,10 +33,8 @@ fn spread_words(work: &mut [u32], at: usize, words: usize)
     requires { (words ≤ words_of max_facts) × (at + words ≤ length work.old) }
     ensures { SpreadDown 5 at words work.old work.new }
 {
-    let mut w: usize = 0;
-    while w < words {
+    for w in 0..words {
         work[at + w] = spread_word(work[at + w]);
-        w += 1;
     }
 }
 
@@ -45,10 +43,8 @@ fn join_runs(work: &mut [u32], from: usize, half: usize)
     requires { (half ≤ words_of max_facts) × (from + 2 * half ≤ length work.old) }
     ensures { RunJoined from half half work.old work.new }
 {
-    let mut k: usize = 0;
-    while k < half {
-        work[from + k] = work[from + k] | work[from + half + k];
-        k += 1;
+    for k in 0..half {
+        work[from + k] |= work[from + half + k];
     }
 }
 
@@ -58,10 +54,8 @@ fn join_words(work: &mut [u32], at: usize, b: u16, blocks: usize)
     ensures { WordsJoined b at (2 * blocks * 2 ^ b) work.old work.new }
 {
     let half: usize = 1 << b;
-    let mut q: usize = 0;
-    while q < blocks {
+    for q in 0..blocks {
         join_runs(work, at + 2 * q * half, half);
-        q += 1;
     }
 }
 
@@ -72,10 +66,7 @@ pub fn spread_down(work: &mut [u32], at: usize, facts: u16)
 {
     let words = words_of(facts);
     spread_words(work, at, words);
-    let mut b: u16 = 0;
-    while b + 5 < facts {
-        let blocks: usize = 1 << (facts - 6 - b);
-        join_words(work, at, b, blocks);
-        b += 1;
+    for b in 0..facts.saturating_sub(5) {
+        join_words(work, at, b, 1 << (facts - 6 - b));
     }
 }

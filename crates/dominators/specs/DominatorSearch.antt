@@ -1,5 +1,5 @@
 -- The first move that dominates another one looked for among those of its member, and what is said of the other then.
-use Rattle.std.specs.Prelude.{◌≡◌, refl, ◌⊎◌, Bool, true, false, not, ◌&&◌, List, ℕ, ◌+◌, ◌*◌, ◌/◌, ◌%◌, ◌≤◌, ◌<◌, length, get_or, set, eqb}
+use Rattle.std.specs.Prelude.{◌≡◌, refl, ◌⊎◌, Option, Some, None, Bool, true, false, not, ◌&&◌, List, ℕ, ◌+◌, ◌*◌, ◌/◌, ◌%◌, ◌≤◌, ◌<◌, length, get_or, set, eqb}
 use Rattle.std.proofs.Common.{sym, ap, ◌∙◌, subst, inl, inr, arith, get_or-set_same, get_or-set_other, eqb-true, eq-eqb, ne_eqb}
 use Rattle.std.proofs.lemmas.Bool.{eqb-false}
 use Rattle.packing.specs.TestLaws.{and_left, and_right, Tested, tested, passes, fails}
@@ -22,13 +22,21 @@ use Rattle.work_layout.specs.ClassLayout.{class_in}
 abbrev pub comes_below : List ℕ → ℕ → ℕ → Bool
 comes_below w x y = strictly_below (x / 65536) (y / 65536) && includes (member_at w (y % 65536)).store (member_at w (x % 65536)).store
 
--- d is the place of the member that shows that move x dominates move y; 65535 where none does
-pub record DominatedBy (w : List ℕ) (n x y d : ℕ) : Type 0 where
-  pub fits : (d ≡ 65535 → ⊥) → d ≤ n
-  pub none : d ≡ 65535 → (comes_below w x y ≡ false)
-      ⊎ ((comes_below w x y ≡ true) × (q : ℕ) × LiftedAt w n (y % 65536) (x % 65536) q × (class_in w q ≡ class_in w (y % 65536) → ⊥))
-  pub some : (d ≡ 65535 → ⊥)
-      → (comes_below w x y ≡ true) × LiftedAt w n (y % 65536) (x % 65536) d × (class_in w d ≡ class_in w (y % 65536))
+-- the member at place d shows that move x dominates move y
+pub record DominatedAt (w : List ℕ) (n x y d : ℕ) : Type 0 where
+  pub fits : d ≤ n
+  pub some : (comes_below w x y ≡ true) × LiftedAt w n (y % 65536) (x % 65536) d × (class_in w d ≡ class_in w (y % 65536))
+
+-- no member shows it
+abbrev pub NotDominated : List ℕ → ℕ → ℕ → ℕ → Type 0
+NotDominated w n x y =
+    (comes_below w x y ≡ false)
+    ⊎ ((comes_below w x y ≡ true) × (q : ℕ) × LiftedAt w n (y % 65536) (x % 65536) q × (class_in w q ≡ class_in w (y % 65536) → ⊥))
+
+-- d is the place of the member that shows that move x dominates move y; none where none does
+abbrev pub DominatedBy : List ℕ → ℕ → ℕ → ℕ → Option ℕ → Type 0
+DominatedBy w n x y (Some d) = DominatedAt w n x y d
+DominatedBy w n x y None = NotDominated w n x y
 
 -- what looking for a move that dominates the one at j found
 pub record Looked (sheet : Sheet) (set : List Configuration) (numbers : List ℕ) (p : Configuration)
@@ -68,10 +76,10 @@ module _ (w : List ℕ) (n first j k : ℕ) where
   passing_first = record { pass = λ sheet set numbers p m r i total M h l P. (l, P) }
 
   -- the one at hand does not dominate
-  pub passing_next : (at d : ℕ) → at < j → Passing w n first j k at
-      → DominatedBy w n (get_or w (moves_at + first + at) 0) (get_or w (moves_at + first + j) 0) d → d ≡ 65535
+  pub passing_next : (at : ℕ) → at < j → Passing w n first j k at
+      → NotDominated w n (get_or w (moves_at + first + at) 0) (get_or w (moves_at + first + j) 0)
       → Passing w n first j k (at + 1)
-  passing_next at d h P D e = record { pass = go }
+  passing_next at h P D = record { pass = go }
     where
       go : (sheet : Sheet) (set : List Configuration) (numbers : List ℕ) (p : Configuration) (m r i total : ℕ)
           → MemberHeld sheet set numbers p w n m r i first total → j < total → k ≤ j
@@ -79,7 +87,7 @@ module _ (w : List ℕ) (n first j k : ℕ) where
           → (at + 1 ≤ j) × Passed sheet set numbers (moves sheet p) (move_of sheet p j) (at + 1)
       go sheet set numbers p m r i total M l kj pk =
           let q = P.pass sheet set numbers p m r i total M l kj pk in
-          let f : dominates sheet set numbers (move_of sheet p j) (move_of sheet p at) ≡ false = by (D.none e) in
+          let f : dominates sheet set numbers (move_of sheet p j) (move_of sheet p at) ≡ false = by D in
           let g : dominates sheet set numbers (move_of sheet p j) (get_or (moves sheet p) at (move_of sheet p j)) ≡ false =
           ap (dominates sheet set numbers (move_of sheet p j))
           (get_d_any (moves sheet p) at (move_of sheet p j) no_move_lem (omega (arith, span_count M))) ∙ f in (
@@ -99,15 +107,15 @@ module _ (w : List ℕ) (n first j k : ℕ) where
 
   -- it does
   pub looked_hit : (at d : ℕ) → n ≤ member_room → at < j → Passing w n first j k at
-      → DominatedBy w n (get_or w (moves_at + first + at) 0) (get_or w (moves_at + first + j) 0) d → (d ≡ 65535 → ⊥)
+      → DominatedAt w n (get_or w (moves_at + first + at) 0) (get_or w (moves_at + first + j) 0) d
       → LookedFrom w n first j k (at * 65536 + d)
-  looked_hit at d few h P D e =
-      let l : d ≤ n = D.fits e in
+  looked_hit at d few h P D =
+      let l : d ≤ n = D.fits in
       let q : (at * 65536 + d) % 65536 ≡ d = omega arith in
       let a : (at * 65536 + d) / 65536 ≡ at = omega arith in
       record {
         fits = λ z. omega arith;
-        settles = inr ((λ z. e (omega arith)), ap (class_in w) q ∙ (D.some e).2);
+        settles = inr ((λ z. omega arith), ap (class_in w) q ∙ D.some.2);
         finds = go q a;
       }
     where
@@ -116,7 +124,8 @@ module _ (w : List ℕ) (n first j k : ℕ) where
           → MemberHeld sheet set numbers p w n m r i first total → j < total → k ≤ j
           → Passed sheet set numbers (moves sheet p) (move_of sheet p j) k → Looked sheet set numbers p w first j (at * 65536 + d)
       go q a sheet set numbers p m r i total M jt kj pk =
-          let s = D.some e in
+          let s = D.some in
+          let l : d ≤ n = D.fits in
           let x = P.pass sheet set numbers p m r i total M jt kj pk in
           let sh : Shows set (move_of sheet p j) (move_of sheet p at) d = lifted_shows M j at d jt (omega arith) s.1 s.0 in
           record {
@@ -129,7 +138,7 @@ module _ (w : List ℕ) (n first j k : ℕ) where
                     (subst (Shows set (move_of sheet p j) (move_of sheet p at)) (sym q) sh),
               );
             };
-            last = λ z. absurd (e (omega arith));
+            last = λ z. absurd (omega arith);
             one_class = λ z. ap (class_in w) q ∙ s.2;
           }
 
@@ -285,19 +294,3 @@ module _ (w : List ℕ) (n first j kept : ℕ) (t : ℕ) (is : kept ≡ get_or w
             (λ z. x.0 (omega arith)),
             ap (λ (y : ℕ). class_in u (y % 65536)) e ∙ class (next % 65536) ∙ x.1 ∙ sym (ap (class_in u) goal ∙ class (target_at w first j)),
           )
-
--- ---- one move beside another
-module _ (w : List ℕ) (n x y : ℕ) where
-  pub dominated_not : comes_below w x y ≡ false → DominatedBy w n x y 65535
-  dominated_not e = record { fits = λ d. absurd (d refl); none = λ z. inl e; some = λ d. absurd (d refl) }
-
-  module _ (q : ℕ) (few : n ≤ member_room) (e : comes_below w x y ≡ true) (f : LiftedAt w n (y % 65536) (x % 65536) q) where
-    pub dominated_yes : class_in w q ≡ class_in w (y % 65536) → DominatedBy w n x y q
-    dominated_yes s = record {
-      fits = λ d. f.at_most;
-      none = λ z. absurd (omega (arith, f.at_most));
-      some = λ d. (e, f, s);
-    }
-
-    pub dominated_no : (class_in w q ≡ class_in w (y % 65536) → ⊥) → DominatedBy w n x y 65535
-    dominated_no s = record { fits = λ d. absurd (d refl); none = λ z. inr (e, q, f, s); some = λ d. absurd (d refl) }

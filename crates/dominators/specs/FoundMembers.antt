@@ -1,6 +1,6 @@
 -- A member of the set in the work slice found by its numbers, by halving.
 use Rattle.std.specs.Prelude.{◌≡◌, true, false, ℕ, ◌+◌, ◌*◌, ◌/◌, ◌%◌, ◌≤◌, ◌<◌, get_or, eqb}
-use Rattle.std.proofs.Common.{sym, ap, ◌∙◌, subst, arith, eq-eqb, ne_eqb}
+use Rattle.std.proofs.Common.{sym, ap, ◌∙◌, subst, arith}
 use mathlib.Core.List.{List, Memᴰ}
 use Rattle.packing.specs.TestLaws.{true_false, Tested, tested, passes, fails}
 use Rattle.packing.specs.Halving.{Halving, halving_first, halving_upper, halving_lower, halving_last, halving_there}
@@ -9,6 +9,8 @@ use Rattle.packing.specs.TabulateLaws.{tabulate_mem, ascends_at}
 use Rattle.packing.specs.Sheet.{Configuration, Sheet}
 use Rattle.packing.specs.Orders.{configuration_before}
 use Rattle.kept_classes.specs.OrderLaws.{configuration_order}
+use Rattle.std.specs.declared.cmp.Ordering.{Ordering}
+use Rattle.std.specs.Ordering.{is_lt}
 use Rattle.packing.specs.declared.Numbers.{Numbers}
 use Rattle.packing.specs.Packing.{stands_for, PackedIn, Fits, number0, number1, number2}
 use Rattle.packing.specs.Comparing.{compared}
@@ -81,23 +83,23 @@ module _ (w : List ℕ) (n : ℕ) (x : Numbers) where
       (λ j. Ordered w n → PackedIn x → configuration_before (member_at w j) (stands_for x) ≡ false) 0 n (omega arith)
 
   -- by the side of the middle
-  module _ (low high mid r : ℕ) (key : Numbers) (b : Halved w n x low high) (l : low ≤ mid) (h : mid < high)
+  module _ (low high mid : ℕ) (r : Ordering) (key : Numbers) (b : Halved w n x low high) (l : low ≤ mid) (h : mid < high)
       (e : key ≡ numbers_at w mid) (s : r ≡ compared key x) where
-    side : Ordered w n → PackedIn x → eqb r 0 ≡ configuration_before (member_at w mid) (stands_for x)
+    side : Ordered w n → PackedIn x → is_lt r ≡ configuration_before (member_at w mid) (stands_for x)
     side o p =
         compared_before (numbers_at w mid) x (o.packed mid (omega (arith, b.ends.2))) p r (s ∙ ap (λ (k : Numbers). compared k x) e)
 
     -- it stands before x
-    pub halved_upper : r ≡ 0 → Halved w n x (mid + 1) high
+    pub halved_upper : is_lt r ≡ true → Halved w n x (mid + 1) high
     halved_upper z =
-        halving_upper b mid l h (λ o p. sym (side o p) ∙ eq-eqb r 0 z)
+        halving_upper b mid l h (λ o p. sym (side o p) ∙ z)
         (λ j _ k t o p.
         configuration_order.transitive (member_at w j) (member_at w mid) (stands_for x)
         (ascends_at configuration_order (member_at w) n o.ascends j mid k (omega (arith, b.ends.2))) (t o p))
 
     -- it does not
-    pub halved_lower : (r ≡ 0 → ⊥) → Halved w n x low mid
-    halved_lower z = halving_lower b mid l h (λ o p. sym (side o p) ∙ ne_eqb r 0 z) later
+    pub halved_lower : is_lt r ≡ false → Halved w n x low mid
+    halved_lower z = halving_lower b mid l h (λ o p. sym (side o p) ∙ z) later
       where
         later : (j : ℕ) → mid < j → j < n → (Ordered w n → PackedIn x → configuration_before (member_at w mid) (stands_for x) ≡ false)
             → Ordered w n → PackedIn x → configuration_before (member_at w j) (stands_for x) ≡ false

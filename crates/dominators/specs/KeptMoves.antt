@@ -1,6 +1,6 @@
 -- The kept dominating moves: for each move one number, the place of a move of the same member and the place of the member of the
 -- set that shows that this one dominates it.
-use Rattle.std.specs.Prelude.{◌≡◌, refl, Bool, true, false, not, ◌&&◌, ℕ, ◌+◌, ◌/◌, ◌%◌, ◌≤◌, ◌<◌, length, get_or, eqb}
+use Rattle.std.specs.Prelude.{◌≡◌, refl, Bool, true, false, ◌&&◌, ℕ, ◌+◌, ◌/◌, ◌%◌, ◌≤◌, ◌<◌, length, get_or, eqb}
 use Rattle.std.proofs.Common.{sym, ap, ap₂, ◌∙◌, subst, arith}
 use mathlib.Core.List.{List, [], Memᴰ}
 use Rattle.packing.specs.TestLaws.{true_false, and_left, and_right, Tested, tested, passes, fails}

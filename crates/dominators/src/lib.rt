@@ -23,7 +23,7 @@ pub fn find_member(work: &[u32], n: usize, x: Numbers) -> usize
     while low < high {
         let mid = low + (high - low) / 2;
         let key = work_layout::key_at(work, mid);
-        if key.compare(x) == 0 {
+        if key.compare(x).is_lt() {
             low = mid + 1;
         } else {
             high = mid;
@@ -50,20 +50,20 @@ pub fn find_lifted(work: &[u32], n: usize, t: usize, u: usize) -> usize
     )
 }
 
-// Whether move x dominates y in the present classes: the place of the member that shows it, or NONE.
-fn dominated_by(work: &[u32], n: usize, x: u32, y: u32) -> u32
+// Whether move x dominates y in the present classes: the place of the member that shows it, or none.
+fn dominated_by(work: &[u32], n: usize, x: u32, y: u32) -> Option<u32>
     requires { (n ≤ member_room) × (x % 65536 < n) × (y % 65536 < n) × (work_end ≤ length work.now) }
     ensures { DominatedBy work.now n x y result }
 {
     if !comes_below(work, x, y) {
-        return NONE;
+        return None;
     }
     let t = (y % 65536) as usize;
     let q = find_lifted(work, n, t, (x % 65536) as usize);
     if work_layout::class_at(work, q) == work_layout::class_at(work, t) {
-        q as u32
+        Some(q as u32)
     } else {
-        NONE
+        None
     }
 }
 
@@ -74,13 +74,10 @@ fn dominator_from(work: &[u32], n: usize, first: usize, j: usize, k: usize) -> u
     ensures { LookedFrom work.now n first j k result }
 {
     let y = work[MOVES + first + j];
-    let mut i = k;
-    while i < j {
-        let q = dominated_by(work, n, work[MOVES + first + i], y);
-        if q != NONE {
+    for i in k..j {
+        if let Some(q) = dominated_by(work, n, work[MOVES + first + i], y) {
             return (i as u32) * 65536 + q;
         }
-        i += 1;
     }
     (j as u32) * 65536 + NONE
 }
@@ -105,9 +102,7 @@ pub fn forget_dominators(work: &mut [u32], m: usize)
     requires { (m ≤ move_room) × (work_end ≤ length work.old) }
     ensures { Forgotten work.old m work.new }
 {
-    let mut k: usize = 0;
-    while k < m {
+    for k in 0..m {
         work[DOMINATORS + k] = NONE;
-        k += 1;
     }
 }

@@ -8,12 +8,10 @@ use Rattle.ask_labels.specs.declared.Shelf.{Shelf}
 use Rattle.ask_labels.specs.LabelShelf.{Shelved}
 use Rattle.member_table.specs.MemberTable.{member_in, id_in}
 use Rattle.collected_moves.specs.declared.Running.{Running}
-use Rattle.collected_moves.specs.declared.Noted.{Noted}
-use Rattle.collected_moves.specs.declared.Noted.TheVariants as noted
+use Rattle.std.specs.Prelude.{Option, Some, None}
+use Rattle.walk_state.specs.declared.Walk.{Walk}
 use Rattle.collected_moves.specs.CollectedMoves.{member_part}
 use Rattle.walk_state.specs.SetGrowth.{Growth}
-use Rattle.walk_state.specs.declared.Walked.{Walked}
-use Rattle.walk_state.specs.declared.Walked.TheVariants as walked
 use Rattle.walk_state.specs.WalkState.{OnSheet}
 use Rattle.exploration.specs.declared.Plan.{Plan}
 use Rattle.unexplored_members.specs.UnexploredMembers.{IsExplored}
@@ -44,9 +42,9 @@ pub record ExploredOver (nodes : List Node) (plan : Plan) (v : List ℕ) (s : Ru
   pub outside : SameOutside spans_at work_end v w
 
 -- by the answer
-abbrev pub MemberExplored : List Node → Plan → List ℕ → Running → ℕ → List ℕ → Walked → Type 0
-MemberExplored nodes plan v s id w (walked.On t) = MemberOn nodes plan v s id w t.running t.shelf
-MemberExplored nodes plan v s id w walked.Over = ExploredOver nodes plan v s w
+abbrev pub MemberExplored : List Node → Plan → List ℕ → Running → ℕ → List ℕ → Option Walk → Type 0
+MemberExplored nodes plan v s id w (Some t) = MemberOn nodes plan v s id w t.running t.shelf
+MemberExplored nodes plan v s id w None = ExploredOver nodes plan v s w
 
 -- ---- all members
 -- every member is explored
@@ -57,6 +55,6 @@ pub record ExploredOn (nodes : List Node) (plan : Plan) (v : List ℕ) (s : Runn
   pub explored_for : (g : Growth) → OnPlan g nodes plan v → ExploredFor g v s → ExploredFor g w t
 
 -- by the answer
-abbrev pub SetExplored : List Node → Plan → List ℕ → Running → List ℕ → Noted → Type 0
-SetExplored nodes plan v s w (noted.On t) = ExploredOn nodes plan v s w t
-SetExplored nodes plan v s w noted.Over = ExploredOver nodes plan v s w
+abbrev pub SetExplored : List Node → Plan → List ℕ → Running → List ℕ → Option Running → Type 0
+SetExplored nodes plan v s w (Some t) = ExploredOn nodes plan v s w t
+SetExplored nodes plan v s w None = ExploredOver nodes plan v s w

@@ -23,16 +23,13 @@ use Rattle.member_table.specs.MemberTable.{member_in}
 use Rattle.member_table.specs.MemberLaws.{member_id}
 use Rattle.member_table.specs.TableInPart.{part_none}
 use Rattle.collected_moves.specs.declared.Running.{Running}
-use Rattle.collected_moves.specs.declared.Noted.{Noted}
-use Rattle.collected_moves.specs.declared.Noted.TheVariants as noted
+use Rattle.std.specs.Prelude.{Option, Some, None}
 use Rattle.collected_moves.specs.CollectedMoves.{Grown, member_part, members_of, moves_of}
 use Rattle.collected_moves.specs.CollectedLaws.{moves_of_none, grown_trans}
 use Rattle.walk_state.specs.SetGrowth.{Growth, InSet, InHand, Gathered}
 use Rattle.walk_state.specs.SetGrowthLaws.{grown_members, moves_distinct, moves_length}
 use Rattle.walk_state.specs.declared.Basis.{Basis}
 use Rattle.walk_state.specs.declared.Walk.{Walk}
-use Rattle.walk_state.specs.declared.Walked.{Walked}
-use Rattle.walk_state.specs.declared.Walked.TheVariants as walked
 use Rattle.walk_state.specs.WalkState.{NodesLent, MemberFits, Walking, OnSheet}
 use Rattle.member_moves.specs.MovesFound.{Collected, FoundOn, FoundOver, MovesFound}
 use Rattle.third_rule.specs.ThirdRule.{Standing, OnTable, AllAddedOn, AddedOver, AllAdded}
@@ -408,23 +405,23 @@ module _ (nodes : List Node) (plan : Plan) (v : List ℕ) (s : Running) (id : �
           })
 
 -- ---- the answers taken apart
-module _ (rank : ℕ → ℕ) {nodes : List Node} {b : Basis} {v : List ℕ} {s : Walk} {x : Configuration} {w : List ℕ} {r : Walked} where
-  pub found_on : {t : Walk} → r ≡ walked.On t → MovesFound rank nodes b v s x w r → FoundOn rank nodes b v s x w t
+module _ (rank : ℕ → ℕ) {nodes : List Node} {b : Basis} {v : List ℕ} {s : Walk} {x : Configuration} {w : List ℕ} {r : Option Walk} where
+  pub found_on : {t : Walk} → r ≡ Some t → MovesFound rank nodes b v s x w r → FoundOn rank nodes b v s x w t
   found_on e h = subst (MovesFound rank nodes b v s x w) e h
 
-  pub found_over : r ≡ walked.Over → MovesFound rank nodes b v s x w r → FoundOver nodes b v s x w
+  pub found_over : r ≡ None → MovesFound rank nodes b v s x w r → FoundOver nodes b v s x w
   found_over e h = subst (MovesFound rank nodes b v s x w) e h
 
-module _ {b : Basis} {v : List ℕ} {s : Running} {w : List ℕ} {r : Noted} where
-  pub added_on : {t : Running} → r ≡ noted.On t → AllAdded b v s w r → AllAddedOn b v s w t
+module _ {b : Basis} {v : List ℕ} {s : Running} {w : List ℕ} {r : Option Running} where
+  pub added_on : {t : Running} → r ≡ Some t → AllAdded b v s w r → AllAddedOn b v s w t
   added_on e h = subst (AllAdded b v s w) e h
 
-  pub added_over : r ≡ noted.Over → AllAdded b v s w r → AddedOver b v s w
+  pub added_over : r ≡ None → AllAdded b v s w r → AddedOver b v s w
   added_over e h = subst (AllAdded b v s w) e h
 
-module _ (nodes : List Node) (plan : Plan) (v : List ℕ) (s : Running) (id : ℕ) (w : List ℕ) (r : Walked) where
-  pub one_on : {t : Walk} → r ≡ walked.On t → MemberExplored nodes plan v s id w r → MemberOn nodes plan v s id w t.running t.shelf
+module _ (nodes : List Node) (plan : Plan) (v : List ℕ) (s : Running) (id : ℕ) (w : List ℕ) (r : Option Walk) where
+  pub one_on : {t : Walk} → r ≡ Some t → MemberExplored nodes plan v s id w r → MemberOn nodes plan v s id w t.running t.shelf
   one_on e h = subst (MemberExplored nodes plan v s id w) e h
 
-  pub one_over : r ≡ walked.Over → MemberExplored nodes plan v s id w r → ExploredOver nodes plan v s w
+  pub one_over : r ≡ None → MemberExplored nodes plan v s id w r → ExploredOver nodes plan v s w
   one_over e h = subst (MemberExplored nodes plan v s id w) e h

@@ -13,9 +13,9 @@ ghost use Rattle.exploration.specs.ExplorationSteps.{store_in, MemberExplored, S
 ghost use Rattle.work_layout.specs.WorkLayout.{spans_at};
 
 use ask_labels::Shelf;
-use collected_moves::{Caps, Noted, Running};
+use collected_moves::{Caps, Running};
 use sheet_types::TABLE_END;
-use walk_state::{Basis, Walk, Walked};
+use walk_state::{Basis, Walk};
 use work_layout::MEMBERS;
 
 // What stays the same while the set is explored: how many facts and nodes the sheet has, and the caps.
@@ -34,7 +34,7 @@ fn explore_member(
     id: usize,
     s: Running,
     shelf: Shelf,
-) -> Walked
+) -> Option<Walk>
     requires { NodesLent rank_of table.now (basis_of plan 0 0) × Exploring work.old plan s × (id < s.members)
         × (get_or work.old (spans_at + id) 0 ≡ 0) × Shelved work.old plan.facts (store_in work.old id) shelf }
     ensures { MemberExplored (nodes_in (nodes_of table.now) plan.nodes) plan work.old s id work.new result }
@@ -56,18 +56,12 @@ fn explore_member(
         marks: 0,
         top: 0,
     };
-    let r = member_moves::moves_of(work, table, b, e, begun);
-    let Walked::On(t) = r else {
-        return Walked::Over;
-    };
+    let t = member_moves::moves_of(work, table, b, e, begun)?;
     let running = t.running;
     let kept = t.shelf;
-    let q = third_rule::add_labels(work, b, running);
-    let Noted::On(u) = q else {
-        return Walked::Over;
-    };
+    let u = third_rule::add_labels(work, b, running)?;
     unexplored_members::put_span(work, id, first, u.moves);
-    Walked::On(Walk {
+    Some(Walk {
         running: u,
         shelf: kept,
         marks: 0,
@@ -76,7 +70,7 @@ fn explore_member(
 }
 
 // Explores until every member is explored.
-pub fn explore(work: &mut [u32], table: &[u8; TABLE_END], plan: Plan, s: Running) -> Noted
+pub fn explore(work: &mut [u32], table: &[u8; TABLE_END], plan: Plan, s: Running) -> Option<Running>
     requires { NodesLent rank_of table.now (basis_of plan 0 0) × Exploring work.old plan s }
     ensures { SetExplored (nodes_in (nodes_of table.now) plan.nodes) plan work.old s work.new result }
 {
@@ -87,7 +81,7 @@ pub fn explore(work: &mut [u32], table: &[u8; TABLE_END], plan: Plan, s: Running
         let n = run.members;
         let j = unexplored_members::next_place(work, run.low, n);
         if j == n {
-            return Noted::On(run);
+            return Some(run);
         }
         let id = member_table::id_at(work, MEMBERS, n, j);
         let d = member_table::store_of(work, MEMBERS, n, id) as u32;
@@ -97,10 +91,7 @@ pub fn explore(work: &mut [u32], table: &[u8; TABLE_END], plan: Plan, s: Running
             moves: run.moves,
             low: j,
         };
-        let r = explore_member(work, table, plan, id, from, fit);
-        let Walked::On(next) = r else {
-            return Noted::Over;
-        };
+        let next = explore_member(work, table, plan, id, from, fit)?;
         run = next.running;
         shelf = next.shelf;
         store = d;

@@ -24,11 +24,9 @@ pub fn restore_classes(work: &mut [u32], n: usize, count: usize)
     requires { (n ≤ member_room) × (work_end ≤ length work.old) × ((i : ℕ) → i < n → class_in work.old i < member_room) }
     ensures { Restored work.old count n work.new }
 {
-    let mut i: usize = 0;
-    while i < n {
+    for i in 0..n {
         let c = work_layout::class_at(work, i);
         let former = former_class(work, c, count);
         work[CLASSES + i] = former;
-        i += 1;
     }
 }

@@ -1,5 +1,5 @@
 -- What finding the set of a comparison asks and promises.
-use Rattle.std.specs.Prelude.{◌≡◌, true, List, ℕ, ◌≤◌, ◌<◌, get_or}
+use Rattle.std.specs.Prelude.{◌≡◌, true, List, ℕ, ◌≤◌, ◌<◌, get_or, Option, Some, None}
 use Rattle.set_order.specs.Frames.{SameOutside}
 use Rattle.sheet_types.specs.Sheet as spec
 use Rattle.sheet_types.specs.WellFormed.{OfSheet}
@@ -12,8 +12,7 @@ use Rattle.sheet_types.specs.HeldSheet.{configuration, no_configuration, sheet_o
 use Rattle.seed_members.specs.SetLayout.{SetHeld}
 use Rattle.collected_moves.specs.declared.Caps.{Caps}
 use Rattle.exploration.specs.declared.Plan.{Plan}
-use Rattle.found_set.specs.declared.Found.{Found}
-use Rattle.found_set.specs.declared.Found.TheVariants as found
+use Rattle.found_set.specs.declared.SetSize.{SetSize}
 use Rattle.collected_moves.specs.WorkLayout.{work_end}
 use Rattle.sheet_types.specs.SheetLimits.{max_starts}
 
@@ -44,6 +43,6 @@ pub record SetPasses (sheet : spec.Sheet) (l : Limits) (seeds : List spec.Config
   pub outside : SameOutside 0 work_end v w
 
 -- by the answer
-abbrev pub SetFound : spec.Sheet → Limits → List spec.Configuration → List ℕ → List ℕ → Found → Type 0
-SetFound sheet l seeds v w (found.Whole n m) = SetWhole sheet l seeds v w n m
-SetFound sheet l seeds v w found.TooLarge = SetPasses sheet l seeds v w
+abbrev pub SetFound : spec.Sheet → Limits → List spec.Configuration → List ℕ → List ℕ → Option SetSize → Type 0
+SetFound sheet l seeds v w (Some size) = SetWhole sheet l seeds v w size.members size.moves
+SetFound sheet l seeds v w None = SetPasses sheet l seeds v w

@@ -11,8 +11,7 @@ use Rattle.sheet_types.specs.NodeTable.{nodes_of}
 use Rattle.sheet_types.specs.HeldSheet.{starts_in, sheet_of, nodes_in}
 use Rattle.collected_moves.specs.declared.Caps.{Caps}
 use Rattle.collected_moves.specs.declared.Running.{Running}
-use Rattle.collected_moves.specs.declared.Noted.{Noted}
-use Rattle.collected_moves.specs.declared.Noted.TheVariants as noted
+use Rattle.std.specs.Prelude.{Option, Some, None}
 use Rattle.set_order.specs.SetOrderSteps.{ArrangedAll}
 use Rattle.exploration.specs.declared.Plan.{Plan}
 use Rattle.exploration.specs.ExplorationSteps.{ExploredOn, ExploredOver, SetExplored}
@@ -75,9 +74,9 @@ module _ (sheet : Sheet) (seeds : List Configuration) (k : ℕ) (caps : Caps) (f
         }
 
 -- ---- the answer of exploring taken apart
-module _ (nodes : List Node) (plan : Plan) (v : List ℕ) (s : Running) (w : List ℕ) (r : Noted) where
-  pub all_on : {t : Running} → r ≡ noted.On t → SetExplored nodes plan v s w r → ExploredOn nodes plan v s w t
+module _ (nodes : List Node) (plan : Plan) (v : List ℕ) (s : Running) (w : List ℕ) (r : Option Running) where
+  pub all_on : {t : Running} → r ≡ Some t → SetExplored nodes plan v s w r → ExploredOn nodes plan v s w t
   all_on e h = subst (SetExplored nodes plan v s w) e h
 
-  pub all_over : r ≡ noted.Over → SetExplored nodes plan v s w r → ExploredOver nodes plan v s w
+  pub all_over : r ≡ None → SetExplored nodes plan v s w r → ExploredOver nodes plan v s w
   all_over e h = subst (SetExplored nodes plan v s w) e h

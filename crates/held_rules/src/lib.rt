@@ -6,7 +6,7 @@ ghost use Rattle.set_closure.specs.Frames.{SameOutside};
 ghost use Rattle.set_closure.specs.Stores.{conclusions, closure};
 ghost use Rattle.set_closure.specs.RuleTable.{rules_in};
 ghost use Rattle.set_closure.specs.SheetLimits.{max_rules};
-ghost use Rattle.held_rules.specs.HeldRules.{least_at, rules_end, no_premise, held_count, held_rules, RulesPut, RulesHeld, GrownBy, ReadClosure};
+ghost use Rattle.held_rules.specs.HeldRules.{least_at, rules_end, held_count, held_rules, RulesPut, RulesHeld, GrownBy, ReadClosure};
 
 const MAX_RULES: usize = 32;
 
@@ -15,29 +15,19 @@ const NO_PREMISE: u32 = 65536;
 
 const FEW_RULES: usize = 8;
 
-// Numbers of 16 bits as wider ones.
-fn wide(x: u16) -> u32
-    ensures { (result ≡ x) × (result < no_premise) }
-{
-    x as u32
-}
-
 // The first n rules put at the beginning of the slice, and rules that add nothing behind them.
 fn put_rules(rules: &[u16; 64], n: usize, work: &mut [u32])
     requires { (n ≤ max_rules) × (least_at ≤ length work.old) }
     ensures { RulesPut (rules_in rules.now n) work.new × SameOutside 0 least_at work.old work.new }
 {
-    let mut i: usize = 0;
-    while i < MAX_RULES {
-        let mut premise = NO_PREMISE;
-        let mut conclusion: u32 = 0;
-        if i < n {
-            premise = wide(rules[2 * i]);
-            conclusion = wide(rules[2 * i + 1]);
-        }
+    for i in 0..MAX_RULES {
+        let (premise, conclusion) = if i < n {
+            (rules[2 * i] as u32, rules[2 * i + 1] as u32)
+        } else {
+            (NO_PREMISE, 0)
+        };
         work[i] = premise;
         work[MAX_RULES + i] = conclusion;
-        i += 1;
     }
 }
 
@@ -61,15 +51,15 @@ fn grown(work: &[u32], n: usize, set: u32) -> u32
     ensures { GrownBy (held_rules work.now) set result }
 {
     let mut t = set;
-    let mut i: usize = 0;
-    while i < n {
+    for i in 0..n {
         let premise = work[i];
-        let mut more = work[MAX_RULES + i];
-        if premise & set != premise {
-            more = 0;
-        }
-        t = t | more;
-        i += 1;
+        let conclusion = work[MAX_RULES + i];
+        let more = if premise & set == premise {
+            conclusion
+        } else {
+            0
+        };
+        t |= more;
     }
     t
 }
@@ -95,8 +85,7 @@ pub fn closure_of(work: &[u32], s: u16) -> u16
     requires { least_at ≤ length work.now }
     ensures { ReadClosure work.now s result }
 {
-    let t = close(work, wide(s));
-    (t % 65536) as u16
+    (close(work, s as u32) % 65536) as u16
 }
 
 // All conclusions together.
@@ -106,10 +95,8 @@ pub fn concluded(work: &[u32]) -> u32
 {
     let n = held_count(work);
     let mut all: u32 = 0;
-    let mut i: usize = 0;
-    while i < n {
-        all = all | work[MAX_RULES + i];
-        i += 1;
+    for i in 0..n {
+        all |= work[MAX_RULES + i];
     }
     all
 }
@@ -123,8 +110,7 @@ pub fn hold_rules(rules: &[u16; 64], n: usize, work: &mut [u32])
     ensures { RulesHeld (rules_in rules.now n) work.new × SameOutside 0 rules_end work.old work.new }
 {
     put_rules(rules, n, work);
-    let least = close(work, 0);
-    work[LEAST] = least;
+    work[LEAST] = close(work, 0);
 }
 
 // The number at the place of the least store.

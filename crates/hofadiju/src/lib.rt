@@ -35,7 +35,7 @@ pub extern "C" fn hofadiju_compare(
 {
     let r = compare_call::compare(sheet, left, right, answer, work);
     *res = answer_numbers::answer_numbers(r);
-    answer_numbers::answer_number(r)
+    answer_numbers::outcome_number(r)
 }
 
 // The desk's call (document 02, card 3): the same within the desk's limits.
@@ -53,7 +53,7 @@ pub extern "C" fn hofadiju_compare_desk(
 {
     let r = compare_call::compare_desk(sheet, left, right, answer, work);
     *res = answer_numbers::answer_numbers(r);
-    answer_numbers::answer_number(r)
+    answer_numbers::outcome_number(r)
 }
 
 // The call for all starts of a sheet (document 02, card 1). It returns 0 for a grouping, else the refusal's number; the result has the
@@ -70,7 +70,7 @@ pub extern "C" fn hofadiju_compare_all(
 {
     let r = all_call::compare_all(sheet, answer, work);
     *res = all_numbers::all_numbers(r);
-    all_numbers::all_number(r)
+    answer_numbers::outcome_number(r)
 }
 
 // The call for so many rounds (document 02, card 13). It returns 0 for an answer, else the refusal's number; the result has the verdict, the
@@ -90,7 +90,7 @@ pub extern "C" fn hofadiju_compare_rounds(
 {
     let r = rounds_call::compare_rounds(sheet, left, right, rounds, answer, work);
     *res = rounds_numbers::rounds_numbers(r);
-    rounds_numbers::rounds_number(r)
+    answer_numbers::outcome_number(r)
 }
 
 // The same within the desk's limits.
@@ -109,5 +109,5 @@ pub extern "C" fn hofadiju_compare_rounds_desk(
 {
     let r = rounds_call::compare_rounds_desk(sheet, left, right, rounds, answer, work);
     *res = rounds_numbers::rounds_numbers(r);
-    rounds_numbers::rounds_number(r)
+    answer_numbers::outcome_number(r)
 }

@@ -16,8 +16,7 @@ use Rattle.walk_state.specs.AskLabels.{part}
 use Rattle.walk_state.specs.LabelShelfLaws.{sets_few}
 use Rattle.collected_moves.specs.declared.Caps.{Caps}
 use Rattle.collected_moves.specs.declared.Running.{Running}
-use Rattle.collected_moves.specs.declared.Noted.{Noted}
-use Rattle.collected_moves.specs.declared.Noted.TheVariants.{On, Over}
+use Rattle.std.specs.Prelude.{Option, Some, None}
 use Rattle.collected_moves.specs.CollectedMoves.{Collecting, NotedOn, NoRoom, NotedAs}
 use Rattle.walk_state.specs.NotedInWalk.{NotedAll, AllPass, noted_next, noted_none, pass_next}
 use Rattle.label_moves.specs.LabelMoves.{label_move, label_moves, LabelsStand}
@@ -25,7 +24,7 @@ use Rattle.collected_moves.specs.WorkLayout.{lists_end}
 
 -- ---- a move by what its numbers stand for
 -- with this label, to the configuration that the numbers stand for, which has this store and these threads
-pub noted_named : (v : List ℕ) (first : ℕ) (s : Running) (l : Caps) (w : List ℕ) (r : Noted) (a k : ℕ) (x : Numbers) (z y : ℕ) (ts : List ℕ)
+pub noted_named : (v : List ℕ) (first : ℕ) (s : Running) (l : Caps) (w : List ℕ) (r : Option Running) (a k : ℕ) (x : Numbers) (z y : ℕ) (ts : List ℕ)
     → a ≡ k → stands_for x ≡ record { store = z; threads = ts } → z ≡ y
     → NotedAs v first s l (record { label = a; target = stands_for x }) w r
     → NotedAs v first s l (record { label = k; target = record { store = y; threads = ts } }) w r
@@ -33,12 +32,12 @@ noted_named v first s l w r a k x z y ts d e f h =
     subst (λ (m : Move). NotedAs v first s l m w r)
     (ap₂ (λ (n : ℕ) (p : Configuration). record { label = n; target = p }) d (e ∙ ap (λ (n : ℕ). record { store = n; threads = ts }) f)) h
 
-module _ {v : List ℕ} {first : ℕ} {s : Running} {l : Caps} {w : List ℕ} {r : Noted} where
+module _ {v : List ℕ} {first : ℕ} {s : Running} {l : Caps} {w : List ℕ} {r : Option Running} where
   -- the answer taken apart
-  pub noted_on : {m : Move} {t : Running} → r ≡ On t → NotedAs v first s l m w r → NotedOn v first s l m w t
+  pub noted_on : {m : Move} {t : Running} → r ≡ Some t → NotedAs v first s l m w r → NotedOn v first s l m w t
   noted_on {m} e h = subst (NotedAs v first s l m w) e h
 
-  pub noted_full : {m : Move} → r ≡ Over → NotedAs v first s l m w r → NoRoom v first s l m w
+  pub noted_full : {m : Move} → r ≡ None → NotedAs v first s l m w r → NoRoom v first s l m w
   noted_full {m} e h = subst (NotedAs v first s l m w) e h
 
 -- ---- labels one after another

@@ -8,13 +8,13 @@ ghost use Rattle.collected_moves.specs.CollectedMoves.{Collecting, NotedAs};
 ghost use Rattle.walk_state.specs.NotedInWalk.{NotedAllAs};
 ghost use Rattle.label_moves.specs.LabelMoves.{label_move, label_moves, LabelsStand};
 
-use collected_moves::{Noted, Running};
+use collected_moves::Running;
 use sheet_types::Configuration;
 use threads_beside::NodeBeside;
 use walk_state::Basis;
 
 // The move with label a to the threads of e, at the store joined with a.
-fn note_label(work: &mut [u32], a: u16, b: Basis, e: NodeBeside, s: Running) -> Noted
+fn note_label(work: &mut [u32], a: u16, b: Basis, e: NodeBeside, s: Running) -> Option<Running>
     requires { Collecting work.old b.first s b.caps × (e.count ≤ 8) × (bit_or b.store a < length work.old) }
     ensures { NotedAs work.old b.first s b.caps (label_move work.old b.store (node_beside e).threads a)
         work.new result }
@@ -39,21 +39,15 @@ pub fn note_labels(
     b: Basis,
     e: NodeBeside,
     s: Running,
-) -> Noted
+) -> Option<Running>
     requires { Collecting work.old b.first s b.caps × (e.count ≤ 8) × LabelsStand work.old b.facts b.store from end }
     ensures { NotedAllAs work.old b.first s b.caps
         (label_moves work.old b.store (node_beside e).threads from end) work.new result }
 {
     let mut run = s;
-    let mut i = from;
-    while i < end {
+    for i in from..end {
         let a = (work[i] % 65536) as u16;
-        let r = note_label(work, a, b, e, run);
-        let Noted::On(next) = r else {
-            return Noted::Over;
-        };
-        run = next;
-        i += 1;
+        run = note_label(work, a, b, e, run)?;
     }
-    Noted::On(run)
+    Some(run)
 }

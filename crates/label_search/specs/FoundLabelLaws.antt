@@ -1,5 +1,5 @@
 -- The sets found are labels, and all of them: what is found by trying the sets that have all facts of d in ascending order.
-use Rattle.std.specs.Prelude.{◌≡◌, ◌⊎◌, Bool, cond, not, ℕ, zero, suc, ◌+◌, ◌-◌, ◌^◌, ◌≤◌, ◌<◌, length, get_or, take, drop, eqb, ltb}
+use Rattle.std.specs.Prelude.{◌≡◌, ◌⊎◌, Bool, cond, not, ℕ, zero, suc, ◌+◌, ◌-◌, ◌^◌, ◌≤◌, ◌<◌, length, get_or, take, drop, eqb, ltb, Some, None}
 use Rattle.std.proofs.Math.Path.{refl, ap}
 use Rattle.std.proofs.Common.{sym, ◌∙◌, subst, inl, inr, ⊎_elim, arith, length-drop, get_or-drop, eq-eqb, eqb-true, ltb-true, ltb-false}
 use Rattle.std.proofs.Math.Bool.{true, false}
@@ -39,19 +39,19 @@ module _ (p : ℕ → Bool) where
   any_hit (x ∷ xs) (suc n) zero h l k = or_left (any p (take n xs)) k
   any_hit (x ∷ xs) (suc n) (suc i) h l k = or_right (p x) (any_hit xs n i (omega arith) (omega arith) k)
 
-module _ (w : List ℕ) (at n a r : ℕ) (h : InsideAt w at (at + n) a r) where
+module _ (w : List ℕ) (at n a : ℕ) where
   -- no set of the part is inside a
-  pub inside_none : at + n ≤ r → any (λ b. includes a b) (take n (drop at w)) ≡ false
-  inside_none e =
+  pub inside_none : InsideAt w at (at + n) a None → any (λ b. includes a b) (take n (drop at w)) ≡ false
+  inside_none h =
       any_none (λ b. includes a b) (drop at w) n
-      (λ i l k. ap (λ (x : ℕ). includes a x) (get_or-drop at w i 0) ∙ h.none e (at + i) (omega arith) (omega arith))
+      (λ i l k. ap (λ (x : ℕ). includes a x) (get_or-drop at w i 0) ∙ h (at + i) (omega arith) (omega arith))
 
   -- one is
-  pub inside_some : at + n ≤ length w → r < at + n → any (λ b. includes a b) (take n (drop at w)) ≡ true
-  inside_some l e =
-      let q : at + (r - at) ≡ r = omega (arith, h.ends) in
-      any_hit (λ b. includes a b) (drop at w) n (r - at) (omega (arith, h.ends)) (simp length-drop (omega arith))
-      (ap (λ (x : ℕ). includes a x) (get_or-drop at w (r - at) 0 ∙ ap (λ (k : ℕ). get_or w k 0) q) ∙ h.inside e)
+  pub inside_some : (r : ℕ) → InsideAt w at (at + n) a (Some r) → at + n ≤ length w → any (λ b. includes a b) (take n (drop at w)) ≡ true
+  inside_some r h l =
+      let q : at + (r - at) ≡ r = omega (arith, h.0) in
+      any_hit (λ b. includes a b) (drop at w) n (r - at) (omega (arith, h.0, h.1)) (simp length-drop (omega arith))
+      (ap (λ (x : ℕ). includes a x) (get_or-drop at w (r - at) 0 ∙ ap (λ (k : ℕ). get_or w k 0) q) ∙ h.2)
 
 -- ---- one set more tried
 -- nothing is below d

@@ -1,8 +1,8 @@
 -- The labels of an ask are those of what the store lacks of the asked set, and are the closures of what they have
 -- outside the store.
-use Rattle.std.specs.Prelude.{◌≡◌, true, ℕ, ◌^◌, ◌<◌}
+use Rattle.std.specs.Prelude.{◌≡◌, ℕ, ◌^◌, ◌<◌}
 use Rattle.std.proofs.Common.{subst, arith}
-use mathlib.Core.List.{◌∷◌, Memᴰ}
+use mathlib.Core.List.{Memᴰ}
 use Rattle.std.specs.Int.Bits.{bit_or}
 use Rattle.move_laws.specs.AscendingLaws.{number_order, ascends_unique}
 use Rattle.closure_table.specs.FactSets.{Within}
@@ -10,7 +10,7 @@ use Rattle.closure_table.specs.FactSetLaws.{within_trans, within_or_right, or_le
 use Rattle.closure_table.specs.Stores.{Constraint, conclusions, closure, join}
 use Rattle.move_laws.specs.StoreLaws.{closure_least, closure_includes, closure_closed, closure_constraint, join_left, join_right}
 use Rattle.move_laws.specs.Sheet.{Sheet}
-use Rattle.move_laws.specs.Moves.{constraints, labels}
+use Rattle.move_laws.specs.Moves.{labels}
 use Rattle.move_laws.specs.LabelLaws.{label_constraint, label_makes_true, label_below, label_minimal, labels_ascend}
 use Rattle.move_laws.specs.FactsOutside.{outside}
 use Rattle.move_laws.specs.OutsideLaws.{or_outside, outside_within}

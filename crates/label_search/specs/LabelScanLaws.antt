@@ -1,7 +1,7 @@
 -- Laws of the scan: what stands in the slice while the sets are tried, and slices that agree where it matters.
 use Rattle.std.specs.Prelude.{◌≡◌, Bool, true, false, cond, ℕ, ◌+◌, ◌-◌, ◌/◌, ◌^◌, ◌≤◌, ◌<◌, length, get_or, set, drop}
 use Rattle.std.proofs.Math.Path.{refl, ap}
-use Rattle.std.proofs.Common.{sym, ◌∙◌, subst, inl, inr, ⊎_elim, add-one, length-take, length-drop, length-set, drop-cons, take-suc-set, get_or-set_same, get_or-set_other, get_or-drop, get_or-take, length-take-le, ext_get_or, pow_pos}
+use Rattle.std.proofs.Common.{sym, ◌∙◌, subst, inl, add-one, length-take, length-drop, length-set, drop-cons, take-suc-set, get_or-set_same, get_or-drop, get_or-take, length-take-le, ext_get_or, pow_pos}
 use mathlib.Core.List.{List, [], ◌∷◌, ◌++◌, Memᴰ}
 use native.Mathlib.Omega.{arith}
 use Rattle.std.proofs.Math.ListN.{take}

@@ -1,3 +1,4 @@
+pub use Rattle.label_tests.specs.FactsOutside
 pub mod SetsAbove
 pub mod LabelOrder
 pub mod AskLabels

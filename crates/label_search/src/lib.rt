@@ -1,7 +1,7 @@
 // The labels of an ask at a store: the sets that have all facts of the store are tried in ascending order.
 #![tactic(auto)]
 
-ghost use Rattle.std.specs.Prelude.{◌≡◌, cond, ◌+◌, ◌/◌, ◌≤◌, ◌<◌, ◌^◌, length, take, drop};
+ghost use Rattle.std.specs.Prelude.{◌≡◌, ◌+◌, ◌/◌, ◌≤◌, ◌<◌, ◌^◌, length, take, drop};
 ghost use Rattle.closure_table.specs.Frames.{SameOutside};
 ghost use Rattle.label_search.specs.AskLabels.{LabelsAre, LabelRoom, FoundBelow, is_next};
 
@@ -9,10 +9,10 @@ use closure_table::sets_of;
 use label_tests::{inside_from, passes};
 use number_lists::sort_numbers;
 
-// Whether a set gives a label, 1 or 0, and the place to look at first for a label inside the next set.
+// Whether a set gives a label, and the place to look at first for a label inside the next set.
 #[derive(Drop)]
 struct Tried {
-    count: usize,
+    is_label: bool,
     hint: usize,
 }
 
@@ -20,18 +20,25 @@ struct Tried {
 // follow one another often have the same label inside.
 fn try_set(work: &[u32], d: usize, c: u32, v: usize, at: usize, n: usize, hint: usize) -> Tried
     requires { (d ≤ v) × (v < length work.now) × (at + n ≤ length work.now) × (at ≤ hint) × (hint ≤ at + n) }
-    ensures { (result.count ≡ cond (is_next work.now d c (take n (drop at work.now)) v) 1 0) × (result.count ≤ 1)
+    ensures { (result.is_label ≡ is_next work.now d c (take n (drop at work.now)) v)
         × (at ≤ result.hint) × (result.hint ≤ at + n) }
 {
     if !passes(work, d, c, v) {
-        return Tried { count: 0, hint };
+        return Tried {
+            is_label: false,
+            hint,
+        };
     }
-    let own = work[v - d];
-    let i = inside_from(work, at, at + n, hint, own);
-    if i < at + n {
-        return Tried { count: 0, hint: i };
+    match inside_from(work, at, at + n, hint, work[v - d]) {
+        Some(i) => Tried {
+            is_label: false,
+            hint: i,
+        },
+        None => Tried {
+            is_label: true,
+            hint: at + n,
+        },
     }
-    Tried { count: 1, hint: i }
 }
 
 // Tries each set that has all facts of d, in ascending order: the closure of what it has outside d is stored behind the labels
@@ -48,7 +55,7 @@ fn scan_labels(work: &mut [u32], facts: u16, d: usize, c: u32, at: usize) -> usi
     while v < size {
         let t = try_set(work, d, c, v, at, n, hint);
         work[at + n] = work[v - d];
-        n += t.count;
+        n += usize::from(t.is_label);
         hint = t.hint;
         v = d | (v + 1);
     }

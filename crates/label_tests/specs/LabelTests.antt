@@ -1,5 +1,5 @@
 -- Tests of a set that may give a label, read off a slice that begins with a table of closures.
-use Rattle.std.specs.Prelude.{◌≡◌, Bool, true, false, ◌&&◌, List, ℕ, ◌-◌, ◌≤◌, ◌<◌, get_or, eqb}
+use Rattle.std.specs.Prelude.{◌≡◌, Bool, true, false, ◌&&◌, List, ℕ, ◌-◌, ◌≤◌, ◌<◌, get_or, eqb, Option, Some, None}
 use Rattle.std.specs.Int.Bits.{bit_or}
 use Rattle.stores.specs.Stores.{includes}
 
@@ -7,8 +7,7 @@ use Rattle.stores.specs.Stores.{includes}
 abbrev pub passes_by : List ℕ → ℕ → ℕ → ℕ → Bool
 passes_by w d c v = eqb (bit_or d (get_or w (v - d) 0)) v && includes (get_or w v 0) c
 
--- r is a place from `from` on, before `end`, whose set is inside a, or the end, where there is none
-pub record InsideAt (w : List ℕ) (from end a r : ℕ) : Type 0 where
-  pub ends : (from ≤ r) × (r ≤ end)
-  pub inside : r < end → includes a (get_or w r 0) ≡ true
-  pub none : end ≤ r → (i : ℕ) → from ≤ i → i < end → includes a (get_or w i 0) ≡ false
+-- a place from `from` on, before `end`, whose set is inside a, or none where there is none
+abbrev pub InsideAt : List ℕ → ℕ → ℕ → ℕ → Option ℕ → Type 0
+InsideAt w from end a (Some r) = (from ≤ r) × (r < end) × (includes a (get_or w r 0) ≡ true)
+InsideAt w from end a None = (i : ℕ) → from ≤ i → i < end → includes a (get_or w i 0) ≡ false

@@ -1,3 +1,2 @@
 pub use Rattle.stores.specs.FactsOutside
 pub mod LabelTests
-pub mod LabelTestLaws

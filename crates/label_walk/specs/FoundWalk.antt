@@ -1,5 +1,5 @@
 -- The walk before size k: what is found among the sets with fewer facts is listed, and the sets that include it are no longer marked.
-use Rattle.std.specs.Prelude.{◌≡◌, refl, Bool, true, false, cond, not, ◌&&◌, ℕ, suc, ◌+◌, ◌-◌, ◌*◌, ◌^◌, ◌≤◌, ◌<◌, eqb, ltb, length, take, drop}
+use Rattle.std.specs.Prelude.{◌≡◌, refl, Bool, true, false, cond, not, ◌&&◌, ℕ, suc, ◌+◌, ◌-◌, ◌*◌, ◌^◌, ◌≤◌, ◌<◌, eqb, ltb, length, take, drop, Some, None}
 use Rattle.std.proofs.Common.{sym, ap, ◌∙◌, subst, inl, inr, arith, length-append, take-add, drop-drop, drop_at, eqb-true, eq-eqb, ltb-true, ltb-false}
 use mathlib.Core.List.Memᴰ
 use mathlib.Core.List.{List, [], ◌∷◌, ◌++◌, Memᴰ}
@@ -165,18 +165,18 @@ module _ (facts words left at : ℕ) (u : List ℕ) where
         (few, walked.marks s few ∙ ap (λ (b : Bool). cond b 0 (mark u left s)) t ∙ eqb-true (mark u left s) 1 p)
 
     -- where no set is marked any more, what is found is the whole
-    pub walked_ended : (r : ℕ) → k ≤ suc facts → words ≡ words_of facts → LeastSize w left words r → 16 < r
+    pub walked_ended : k ≤ suc facts → words ≡ words_of facts → LeastSize w left words None
         → marked_below facts left u k ≡ marked_below facts left u (suc facts)
-    walked_ended r h q least more = found_ended (is_marked left u) facts k h (λ s l p. go s l p (tested (is_covered (found k) s)))
+    walked_ended h q least = found_ended (is_marked left u) facts k h (λ s l p. go s l p (tested (is_covered (found k) s)))
       where
         go : (s : ℕ) → s < 2 ^ facts → is_marked left u s ≡ true → Tested (is_covered (found k) s) → is_covered (found k) s ≡ true
         go s l p (passes t) = t
-        go s l p (fails t) = let m = still q s l p t in absurd (omega (arith, count_most 16 s, least.below s m.0 m.1))
+        go s l p (fails t) = let m = still q s l p t in absurd (least s m.0 m.1)
 
     -- no set with fewer facts than r is marked: what is found is found among the sets with fewer than r, and some set with r facts is marked
-    pub walked_least : (r : ℕ) → facts ≤ 16 → words ≡ words_of facts → NoneBeyond facts left u → LeastSize w left words r → r ≤ 16
+    pub walked_least : (r : ℕ) → facts ≤ 16 → words ≡ words_of facts → NoneBeyond facts left u → LeastSize w left words (Some r)
         → (r ≤ facts) × Walked facts words left at u r n w × (0 < length (marked_of_size w left words r))
-    walked_least r h q beyond least few = let a = least.some few in from a.0 a.1 a.2 a.3
+    walked_least r h q beyond least = let a = least.1 in from a.0 a.1 a.2 a.3
       where
         from : (s : ℕ) → s < 32 * words → mark w left s ≡ 1 → fact_count 16 s ≡ r
             → (r ≤ facts) × Walked facts words left at u r n w × (0 < length (marked_of_size w left words r))
@@ -212,7 +212,7 @@ module _ (facts words left at : ℕ) (u : List ℕ) where
                 (found_skip (is_marked left u) facts k (r - k)
                 (λ t i p c.
                 let o = still q t i p c in
-                omega (arith, z, count_wider facts 16 t h i, least.below t o.0 o.1)))
+                omega (arith, z, count_wider facts 16 t h i, least.0 t o.0 o.1)))
 
             again : Walked facts words left at u r n w
             again =

@@ -20,11 +20,9 @@ fn clear_found(work: &mut [u32], left: usize, words: usize, at: usize, n: usize)
     ensures { Marked left words work.old work.new
         (λ s. cond (is_covered (numbers_at work.old at n) s) 0 (mark work.old left s)) }
 {
-    let mut i: usize = 0;
-    while i < n {
+    for i in 0..n {
         let a = work[at + i] as usize;
         clear_sets(work, left, words, a, NO_FACT);
-        i += 1;
     }
 }
 
@@ -40,23 +38,12 @@ pub fn find_sets(work: &mut [u32], facts: u16, left: usize, at: usize) -> usize
 {
     let words = words_of(facts);
     let mut n: usize = 0;
-    loop {
-        let k = least_size(work, left, words);
-        if k > 16 {
-            return n;
-        }
+    while let Some(k) = least_size(work, left, words) {
         let m = list_marked(work, left, words, k, at, n);
         clear_found(work, left, words, at + n, m - n);
         n = m;
     }
-}
-
-// How many sets of so many facts there are.
-pub fn sets_of(facts: u16) -> usize
-    requires { facts ≤ max_facts }
-    ensures { (result ≡ 2 ^ facts) × (result ≤ 2 ^ max_facts) }
-{
-    1 << facts
+    n
 }
 
 // How many sets do not include a.
@@ -65,7 +52,8 @@ pub fn count_free_of(facts: u16, a: usize) -> usize
     ensures { result ≡ length (free_sets (a ∷ []) facts) }
 {
     let k = fact_count(a) as u16;
-    sets_of(facts) - sets_of(facts - k)
+    let sets: usize = 1 << facts;
+    sets - (1 << (facts - k))
 }
 
 // How many sets include none of the n sets from `at` on.

@@ -6,11 +6,10 @@
 mod classes;
 mod members;
 
-ghost use Rattle.std.specs.Prelude.{◌<◌, ◌≤◌};
-ghost use Rattle.level_tables.specs.Tells.{Tells};
+ghost use Rattle.std.specs.Prelude.{◌<◌, ◌≤◌, IfSome, IsTrue};
 ghost use Rattle.level_check.specs.Checking.{Placed, Agreed};
 
-use level_tables::{areas, numbers, pairs};
+use level_tables::{areas, pairs};
 use sheet_types::{Configuration, Sheet};
 
 const MOST_LEVELS: usize = 4096;
@@ -26,7 +25,7 @@ pub struct Claim {
 
 // The report agrees (with how many configurations, and the last level that differs from the one before); the sheet is too
 // large to check; or which part of the report is wrong.
-#[derive(Drop)]
+#[derive(Clone, Copy)]
 pub enum Checked {
     Agree(usize, usize),
     TooLarge,
@@ -38,21 +37,12 @@ pub enum Checked {
 }
 
 // The first level that is equal to the next; the first that separates the starts, or none; the first that agrees with the
-// next on the members listed. Not whole where there was no room.
+// next on the members listed, or none.
 #[derive(Clone, Copy)]
 struct Levels {
-    whole: bool,
     last: usize,
-    apart: usize,
-    round: usize,
-}
-
-// The level, if this is the first at which something holds.
-fn first_at(earlier: usize, holds: bool, level: usize) -> usize {
-    if earlier != numbers::NONE {
-        return earlier;
-    }
-    if holds { level } else { numbers::NONE }
+    apart: Option<usize>,
+    round: Option<usize>,
 }
 
 // Whether two configurations are in different classes.
@@ -60,77 +50,48 @@ fn differ(w: &[usize], p: usize, q: usize) -> bool {
     classes::class_of(w, p) != classes::class_of(w, q)
 }
 
-fn no_levels() -> Levels
-    ensures { result.last < 4096 }
+// The levels of n configurations after the first, until one is equal to the next; m members are listed. None where there is
+// no room.
+fn refine(w: &mut [usize], n: usize, m: usize, left: usize, right: usize) -> Option<Levels>
+    ensures { IfSome result (λ levels. levels.last < 4096) }
 {
-    Levels {
-        whole: false,
-        last: 0,
-        apart: 0,
-        round: 0,
-    }
-}
-
-// The levels of n configurations after the first, until one is equal to the next; m members are listed.
-fn refine(w: &mut [usize], n: usize, m: usize, left: usize, right: usize) -> Levels
-    ensures { result.last < 4096 }
-{
-    let mut apart = first_at(numbers::NONE, differ(w, left, right), 0);
-    let mut round = numbers::NONE;
-    let mut level: usize = 0;
-    while level < MOST_LEVELS {
-        let changed = classes::next_level(w, n);
-        round = first_at(round, members::show_members(w, m), level);
-        if changed == numbers::NONE {
-            return no_levels();
-        }
-        if changed == 0 {
-            return Levels {
-                whole: true,
+    let mut apart = differ(w, left, right).then_some(0);
+    let mut round = None;
+    for level in 0..MOST_LEVELS {
+        let changed = classes::next_level(w, n)?;
+        let shown_as_before = members::show_members(w, m);
+        round = round.or(shown_as_before.then_some(level));
+        if !changed {
+            return Some(Levels {
                 last: level,
                 apart,
                 round,
-            };
+            });
         }
-        level += 1;
-        apart = first_at(apart, differ(w, left, right), level);
+        apart = apart.or(differ(w, left, right).then_some(level + 1));
     }
-    no_levels()
+    None
 }
 
-// Every level.
-fn all_levels(w: &mut [usize], n: usize, m: usize, left: usize, right: usize) -> Levels
-    ensures { result.last < 4096 }
+// Every level; none where there is no room.
+fn all_levels(w: &mut [usize], n: usize, m: usize, left: usize, right: usize) -> Option<Levels>
+    ensures { IfSome result (λ levels. levels.last < 4096) }
 {
-    if !classes::first_level(w, n) {
-        return no_levels();
-    }
+    classes::first_level(w, n)?;
     members::show_members(w, m);
     refine(w, n, m, left, right)
 }
 
-// The first level that a report should name: where the starts are separated, or where the members' classes stay.
-fn round_of(found: Levels) -> usize {
-    if found.apart == numbers::NONE {
-        found.round
-    } else {
-        found.apart
-    }
-}
-
-// Verdict, round and classes held to the levels of n configurations.
+// Verdict, round and classes held to the levels of n configurations. The level that a report should name is the first at which
+// the starts are separated, or else at which the members' classes stay.
 fn judge(claim: Claim, found: Levels, classes: bool, n: usize) -> Checked
     requires { (n ≤ 4096) × (found.last < 4096) × Placed claim }
     ensures { Agreed claim result }
 {
-    if !found.whole {
-        return Checked::TooLarge;
-    }
-    let same = found.apart == numbers::NONE;
-    if claim.same != same {
+    if claim.same != found.apart.is_none() {
         return Checked::Verdict;
     }
-    if claim.round != round_of(found) {
+    if found.apart.or(found.round) != Some(claim.round) {
         return Checked::Round;
     }
     if found.last < claim.round {
@@ -145,12 +106,9 @@ fn judge(claim: Claim, found: Levels, classes: bool, n: usize) -> Checked
 // Whether both starts stand where the report says, among m members.
 fn both_placed(w: &[usize], m: usize, claim: Claim, left: usize, right: usize) -> bool
     requires { m ≤ 512 }
-    ensures { Tells (Placed claim) result }
+    ensures { IsTrue result → Placed claim }
 {
-    if members::stands_at(w, m, claim.left, left) {
-        return members::stands_at(w, m, claim.right, right);
-    }
-    false
+    members::stands_at(w, m, claim.left, left) && members::stands_at(w, m, claim.right, right)
 }
 
 // The report held to the levels over n configurations that are all there.
@@ -165,14 +123,15 @@ fn check_levels(
     requires { n ≤ 4096 }
     ensures { Agreed claim result }
 {
-    let m = members::list_members(answer, w);
-    if m == numbers::NONE {
+    let Some(m) = members::list_members(answer, w) else {
         return Checked::Members;
-    }
+    };
     if !both_placed(w, m, claim, left, right) {
         return Checked::Places;
     }
-    let found = all_levels(w, n, m, left, right);
+    let Some(found) = all_levels(w, n, m, left, right) else {
+        return Checked::TooLarge;
+    };
     judge(claim, found, members::classes_agree(w, m), n)
 }
 
@@ -187,10 +146,9 @@ pub fn check(
     ensures { Agreed claim result }
 {
     let mut w = [0usize; areas::ROOM];
-    let reached = level_reach::reach(sheet, left, right, &mut w);
-    if !reached.whole {
+    let Some(reached) = level_reach::reach(sheet, left, right, &mut w) else {
         return Checked::TooLarge;
-    }
+    };
     let n = pairs::count(&w, areas::CONFIGURATIONS);
     check_levels(&mut w, n, answer, claim, reached.left, reached.right)
 }

@@ -6,12 +6,10 @@ mod constraints;
 mod intake;
 mod reductions;
 
-ghost use Rattle.std.specs.Prelude.{◌≡◌, ◌≤◌};
-ghost use Rattle.level_tables.specs.Tells.{Tells};
+ghost use Rattle.std.specs.Prelude.{◌≡◌, ◌≤◌, IfSome};
 ghost use Rattle.level_reach.specs.Constraints.{constraint_count};
 ghost use Rattle.level_reach.specs.Reaching.{configurations, AddedAs};
 
-use level_tables::threads::Threads;
 use level_tables::{areas, numbers, pairs, threads};
 use sheet_types::{Configuration, Sheet};
 
@@ -20,10 +18,9 @@ const MOST_CONFIGURATIONS: usize = 4096;
 
 const MOST_REDUCTIONS: usize = 8192;
 
-// The numbers of both starts' configurations. Not whole where there was no room for all that they reach.
-#[derive(Drop)]
+// The numbers of both starts' configurations.
+#[derive(Clone, Copy)]
 pub struct Reached {
-    pub whole: bool,
     pub left: usize,
     pub right: usize,
 }
@@ -36,7 +33,7 @@ pub fn constraint_count(w: &[usize]) -> usize
 }
 
 // The number of configuration p with constraint e added; none where it is not there.
-pub fn added(w: &[usize], p: usize, e: usize) -> usize
+pub fn added(w: &[usize], p: usize, e: usize) -> Option<usize>
     ensures { AddedAs w.now p e result }
 {
     let store = constraints::joined(
@@ -52,76 +49,55 @@ pub fn added(w: &[usize], p: usize, e: usize) -> usize
     )
 }
 
-// Enters configuration p with each constraint added.
-fn add_each(w: &mut [usize], p: usize) -> bool {
+// Enters configuration p with each constraint added; none where there is no room.
+fn add_each(w: &mut [usize], p: usize) -> Option<()> {
     let store = pairs::first(w, areas::CONFIGURATIONS, p);
     let list = pairs::second(w, areas::CONFIGURATIONS, p);
     let n = constraint_count(w);
-    let mut e: usize = 0;
-    while e < n {
+    for e in 0..n {
         let sum = constraints::joined(w, store, constraints::constraint(w, e));
-        if pairs::enter(w, areas::CONFIGURATIONS, sum, list) == numbers::NONE {
-            return false;
-        }
-        e += 1;
+        pairs::enter(w, areas::CONFIGURATIONS, sum, list)?;
     }
-    true
+    Some(())
 }
 
 // Enters everything that is reached from the configurations in the table. Number 0 of entry p is then the number of p's first
-// reduction, and of the entry after the last it is the end of them. False where there is no room.
-fn grow(w: &mut [usize]) -> bool
-    ensures { Tells (configurations w.new ≤ 4096) result }
+// reduction, and of the entry after the last it is the end of them. None where there is no room.
+fn grow(w: &mut [usize]) -> Option<()>
+    ensures { IfSome result (λ _. configurations w.new ≤ 4096) }
 {
-    let mut p: usize = 0;
-    while p <= MOST_CONFIGURATIONS {
+    for p in 0..=MOST_CONFIGURATIONS {
         numbers::put_in_entry(w, areas::NUMBERS, p, 0, pairs::count(w, areas::REDUCTIONS));
         if pairs::count(w, areas::CONFIGURATIONS) <= p {
-            return true;
+            return Some(());
         }
-        if !add_each(w, p) {
-            return false;
-        }
-        if !reductions::reduce(w, p) {
-            return false;
-        }
-        p += 1;
+        add_each(w, p)?;
+        reductions::reduce(w, p)?;
     }
-    false
+    None
 }
 
 // The number of a start's configuration, which is entered.
-fn enter_start(w: &mut [usize], start: Configuration) -> usize {
+fn enter_start(w: &mut [usize], start: Configuration) -> Option<usize> {
     let bytes = start.threads;
-    let list = threads::list_of(&bytes, 0, start.count);
-    let Threads::Are(x) = list else {
-        return numbers::NONE;
-    };
-    pairs::enter(w, areas::CONFIGURATIONS, start.store as usize, x)
+    let list = threads::list_of(&bytes, 0, start.count)?;
+    pairs::enter(w, areas::CONFIGURATIONS, usize::from(start.store), list)
 }
 
-// Takes in a sheet, and enters everything that is reached; false where there is no room.
-fn fill(sheet: Sheet, w: &mut [usize]) -> bool
-    ensures { Tells (configurations w.new ≤ 4096) result }
-{
-    if intake::take_in(sheet, w) {
-        return grow(w);
-    }
-    false
-}
-
-// Takes in a sheet, and enters every configuration that the two starts reach.
-pub fn reach(sheet: Sheet, left: Configuration, right: Configuration, w: &mut [usize]) -> Reached
-    ensures { Tells (configurations w.new ≤ 4096) result.whole }
+// Takes in a sheet, and enters every configuration that the two starts reach; none where there is no room.
+pub fn reach(
+    sheet: Sheet,
+    left: Configuration,
+    right: Configuration,
+    w: &mut [usize],
+) -> Option<Reached>
+    ensures { IfSome result (λ _. configurations w.new ≤ 4096) }
 {
     pairs::make_empty(w, areas::CONFIGURATIONS, MOST_CONFIGURATIONS);
     pairs::make_empty(w, areas::REDUCTIONS, MOST_REDUCTIONS);
-    let p = enter_start(w, left);
-    let q = enter_start(w, right);
-    let whole = fill(sheet, w);
-    Reached {
-        whole,
-        left: p,
-        right: q,
-    }
+    let left = enter_start(w, left)?;
+    let right = enter_start(w, right)?;
+    intake::take_in(sheet, w)?;
+    grow(w)?;
+    Some(Reached { left, right })
 }

@@ -2,7 +2,6 @@
 ghost use Rattle.std.specs.Prelude.{◌<◌};
 
 use super::constraints;
-use level_tables::threads::Threads;
 use level_tables::{areas, numbers, pairs, threads};
 
 // Nodes that wait to be looked at.
@@ -11,6 +10,7 @@ const MOST_WAITING: usize = 128;
 // More nodes than these are not looked at inside one thread.
 const MOST_VISITS: usize = 4096;
 
+// Kept numbers: a node's kind stands in the slice as one, and is read for a single match.
 const STOP: usize = 0;
 
 const TELL: usize = 1;
@@ -38,132 +38,120 @@ fn of_node(w: &[usize], node: usize, field: usize) -> usize {
     }
 }
 
-// The threads that a node opens to, beside others.
-fn opened_beside(w: &[usize], node: usize, beside: usize) -> Threads {
+// The threads that a node opens to, beside others; none where they are more than a list has.
+fn opened_beside(w: &[usize], node: usize, beside: usize) -> Option<usize> {
     threads::merged(beside, of_node(w, node, OPENED))
 }
 
-// The depth, if what was to be noted was noted.
-fn depth_if(noted: bool, depth: usize) -> usize {
-    if noted { depth } else { numbers::NONE }
-}
-
-// Notes that p reduces to this configuration.
-fn note(w: &mut [usize], p: usize, store: usize, list: usize) -> bool {
-    let t = pairs::enter(w, areas::CONFIGURATIONS, store, list);
-    t != numbers::NONE && pairs::enter(w, areas::REDUCTIONS, p, t) != numbers::NONE
+// Notes that p reduces to this configuration; none where there is no room.
+fn note(w: &mut [usize], p: usize, store: usize, list: usize) -> Option<()> {
+    let t = pairs::enter(w, areas::CONFIGURATIONS, store, list)?;
+    pairs::enter(w, areas::REDUCTIONS, p, t)?;
+    Some(())
 }
 
 // An ask whose set the store has: its node's threads are opened beside the others.
-fn note_ask(w: &mut [usize], p: usize, node: usize, beside: usize) -> bool {
+fn note_ask(w: &mut [usize], p: usize, node: usize, beside: usize) -> Option<()> {
     let store = pairs::first(w, areas::CONFIGURATIONS, p);
     if !constraints::includes(store, of_node(w, node, FIRST)) {
-        return true;
+        return Some(());
     }
-    let list = opened_beside(w, of_node(w, node, SECOND), beside);
-    let Threads::Are(x) = list else {
-        return false;
-    };
-    note(w, p, store, x)
+    let list = opened_beside(w, of_node(w, node, SECOND), beside)?;
+    note(w, p, store, list)
 }
 
 // A tell: its set is joined to the store.
-fn note_tell(w: &mut [usize], p: usize, node: usize, beside: usize) -> bool {
+fn note_tell(w: &mut [usize], p: usize, node: usize, beside: usize) -> Option<()> {
     let store = pairs::first(w, areas::CONFIGURATIONS, p);
     let sum = constraints::joined(w, store, of_node(w, node, FIRST));
     note(w, p, sum, beside)
 }
 
-// The depth with one node more that waits.
-fn push(w: &mut [usize], depth: usize, node: usize, beside: usize) -> usize {
+// The depth with one node more that waits; none where there is no room.
+fn push(w: &mut [usize], depth: usize, node: usize, beside: usize) -> Option<usize> {
     if MOST_WAITING <= depth {
-        return numbers::NONE;
+        return None;
     }
     numbers::put_in_entry(w, areas::WAITING, depth, 0, node);
     numbers::put_in_entry(w, areas::WAITING, depth, 1, beside);
-    depth + 1
+    Some(depth + 1)
 }
 
 // The same, with another node opened beside it.
-fn push_beside(w: &mut [usize], depth: usize, node: usize, other: usize, beside: usize) -> usize {
-    let list = opened_beside(w, other, beside);
-    let Threads::Are(x) = list else {
-        return numbers::NONE;
-    };
-    push(w, depth, node, x)
+fn push_beside(
+    w: &mut [usize],
+    depth: usize,
+    node: usize,
+    other: usize,
+    beside: usize,
+) -> Option<usize> {
+    let list = opened_beside(w, other, beside)?;
+    push(w, depth, node, list)
 }
 
 // An either: each of its nodes, the other dropped.
-fn push_either(w: &mut [usize], depth: usize, node: usize, beside: usize) -> usize {
-    let next = push(w, depth, of_node(w, node, FIRST), beside);
+fn push_either(w: &mut [usize], depth: usize, node: usize, beside: usize) -> Option<usize> {
+    let next = push(w, depth, of_node(w, node, FIRST), beside)?;
     push(w, next, of_node(w, node, SECOND), beside)
 }
 
 // A both: one part, with the other opened beside it.
-fn push_both(w: &mut [usize], depth: usize, node: usize, beside: usize) -> usize {
+fn push_both(w: &mut [usize], depth: usize, node: usize, beside: usize) -> Option<usize> {
     let a = of_node(w, node, FIRST);
     let b = of_node(w, node, SECOND);
-    let next = push_beside(w, depth, a, b, beside);
+    let next = push_beside(w, depth, a, b, beside)?;
     push_beside(w, next, b, a, beside)
 }
 
 // What one node gives beside other threads; the depth after it, or none where there was no room.
-fn visit(w: &mut [usize], depth: usize, p: usize, node: usize, beside: usize) -> usize {
-    let kind = of_node(w, node, KIND);
-    match kind {
-        STOP => depth,
-        TELL => depth_if(note_tell(w, p, node, beside), depth),
-        ASK => depth_if(note_ask(w, p, node, beside), depth),
-        BOTH => push_both(w, depth, node, beside),
-        EITHER => push_either(w, depth, node, beside),
-        _ => numbers::NONE,
+fn visit(w: &mut [usize], depth: usize, p: usize, node: usize, beside: usize) -> Option<usize> {
+    match of_node(w, node, KIND) {
+        STOP => {}
+        TELL => note_tell(w, p, node, beside)?,
+        ASK => note_ask(w, p, node, beside)?,
+        BOTH => return push_both(w, depth, node, beside),
+        EITHER => return push_either(w, depth, node, beside),
+        _ => return None,
     }
+    Some(depth)
 }
 
 // The node on top is looked at.
-fn visit_top(w: &mut [usize], depth: usize, p: usize) -> usize {
-    if depth == 0 {
-        return numbers::NONE;
-    }
-    let node = numbers::in_entry(w, areas::WAITING, depth - 1, 0);
-    let list = numbers::in_entry(w, areas::WAITING, depth - 1, 1);
-    visit(w, depth - 1, p, node, list)
+fn visit_top(w: &mut [usize], depth: usize, p: usize) -> Option<usize> {
+    let top = depth.checked_sub(1)?;
+    let node = numbers::in_entry(w, areas::WAITING, top, 0);
+    let list = numbers::in_entry(w, areas::WAITING, top, 1);
+    visit(w, top, p, node, list)
 }
 
-// The reductions by one thread, the others beside it.
-fn walk(w: &mut [usize], p: usize, thread: usize, beside: usize) -> bool {
-    let mut depth = push(w, 0, thread, beside);
-    let mut visits: usize = 0;
-    while visits < MOST_VISITS {
+// The reductions by one thread, the others beside it; none where there is no room.
+fn walk(w: &mut [usize], p: usize, thread: usize, beside: usize) -> Option<()> {
+    let mut depth = push(w, 0, thread, beside)?;
+    for _ in 0..MOST_VISITS {
         if depth == 0 {
-            return true;
+            return Some(());
         }
-        depth = visit_top(w, depth, p);
-        visits += 1;
+        depth = visit_top(w, depth, p)?;
     }
-    false
+    None
 }
 
 // The reductions by thread i, if there is one.
-fn reduce_thread(w: &mut [usize], p: usize, i: usize) -> bool
+fn reduce_thread(w: &mut [usize], p: usize, i: usize) -> Option<()>
     requires { i < 8 }
 {
     let list = pairs::second(w, areas::CONFIGURATIONS, p);
     let thread = threads::thread_at(list, i);
     if thread == threads::NO_THREAD {
-        return true;
+        return Some(());
     }
     walk(w, p, thread, threads::without(list, i))
 }
 
-// The reductions of configuration p; false where there is no room.
-pub(crate) fn reduce(w: &mut [usize], p: usize) -> bool {
-    let mut i: usize = 0;
-    while i < 8 {
-        if !reduce_thread(w, p, i) {
-            return false;
-        }
-        i += 1;
+// The reductions of configuration p; none where there is no room.
+pub(crate) fn reduce(w: &mut [usize], p: usize) -> Option<()> {
+    for i in 0..8 {
+        reduce_thread(w, p, i)?;
     }
-    true
+    Some(())
 }

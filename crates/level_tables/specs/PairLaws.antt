@@ -1,8 +1,9 @@
 -- What a slot that was found says of the pair in it.
-use Rattle.std.specs.Prelude.{◌≡◌, refl, Bool, true, false, ◌&&◌, ◌||◌, List, ℕ, ◌+◌, ◌-◌, set, eqb}
-use Rattle.std.proofs.Common.{sym, ap, ◌∙◌, add-one, arith, eq-eqb, ne_eqb}
-use Rattle.level_tables.specs.Numbers.{none, number_at}
-use Rattle.level_tables.specs.Pairs.{zeroed, settled_at, first_of, second_of, is_pair, Slot, no_slot, slot_at, Found, present, Entered, there, Appended, no_room, stored, full, new}
+use Rattle.std.specs.Prelude.{Option, Some, None, ◌≡◌, refl, true, false, List, ℕ, ◌+◌, ◌-◌, ◌≤◌, set, eqb}
+use Rattle.std.specs.Option.{SomeIff}
+use Rattle.std.proofs.Common.{sym, subst, ◌∙◌, add-one, arith, eq-eqb, ne_eqb}
+use Rattle.level_tables.specs.Numbers.{number_at}
+use Rattle.level_tables.specs.Pairs.{zeroed, settled_at, first_of, second_of, is_pair, Found, Entered, full, new, Appended}
 
 pub zeroed_none : (w : List ℕ) (from : ℕ) → zeroed w from 0 ≡ w
 unfolding zeroed
@@ -29,22 +30,18 @@ module _ (w : List ℕ) (base slot a b : ℕ) {held : ℕ} (read : held ≡ numb
   settled_not e = settled_taken w base slot a b (λ z. taken (read ∙ z)) ∙ rw (← read, ne_eqb (first_of w base (held - 1)) a e)
 
 -- a slot that is not free is the pair's
-pub slot_pair : {w : List ℕ} {base a b slot : ℕ} → Slot w base a b slot → (slot ≡ none → ⊥) → (number_at w slot ≡ 0 → ⊥)
-    → is_pair w base a b (number_at w slot - 1) ≡ true
-slot_pair no_slot n h = absurd (n refl)
-slot_pair {w} {base} {a} {b} {slot} (slot_at s) n h = sym (settled_taken w base slot a b h) ∙ s
+pub slot_pair : (w : List ℕ) (base slot a b : ℕ) {held : ℕ} → settled_at w base slot a b ≡ true → held ≡ number_at w slot → (held ≡ 0 → ⊥)
+    → is_pair w base a b (held - 1) ≡ true
+slot_pair w base slot a b settled read taken =
+    rw read (sym (settled_taken w base slot a b (λ z. taken (read ∙ z))) ∙ settled)
 
-module _ {w : List ℕ} {base a b slot held : ℕ} (found : Slot w base a b slot) (some : slot ≡ none → ⊥) (read : held ≡ number_at w slot) (taken : held ≡ 0 → ⊥) where
-  held_pair : is_pair w base a b (held - 1) ≡ true
-  held_pair = rw read (slot_pair found some (λ z. taken (read ∙ z)))
-
-  pub found_present : Found w base a b (held - 1)
-  found_present = present held_pair
-
-  pub entered_there : Entered w base a b w (held - 1)
-  entered_there = there held_pair
+-- the pair of a slot, where it is not free
+pub held_found : (w : List ℕ) (base slot a b : ℕ) {held : ℕ} → settled_at w base slot a b ≡ true → held ≡ number_at w slot
+    → (r : Option ℕ) → SomeIff r (1 ≤ held) (held - 1) → Found w base a b r
+held_found w base slot a b settled read None free = tt
+held_found w base slot a b settled read (Some i) e = rw e.1 (slot_pair w base slot a b settled read (λ z. omega (arith, e.0)))
 
 -- a pair that is appended is entered
-pub appended_entered : {w after : List ℕ} {base slot a b r : ℕ} → Appended w base slot a b after r → Entered w base a b after r
-appended_entered no_room = full
-appended_entered {slot = slot} (stored e f) = new slot e f
+pub appended_entered : {w after : List ℕ} {base a b : ℕ} (slot : ℕ) (r : Option ℕ) → Appended w base slot a b after r → Entered w base a b after r
+appended_entered {w} {base = base} {a} {b} slot None e = subst (λ (v : List ℕ). Entered w base a b v None) (sym e) full
+appended_entered slot (Some n) e = new slot e.0 e.1

@@ -1,6 +1,6 @@
 -- A table of pairs that begins at a place of a slice: the number of pairs that it has room for, their count, the pairs, the
 -- slots.
-use Rattle.std.specs.Prelude.{◌≡◌, Bool, cond, true, ◌&&◌, ◌||◌, List, ℕ, zero, suc, ◌+◌, ◌*◌, ◌-◌, set, eqb, ltb}
+use Rattle.std.specs.Prelude.{Option, Some, None, ◌≡◌, Bool, cond, true, ◌&&◌, ◌||◌, List, ℕ, zero, suc, ◌+◌, ◌*◌, ◌-◌, set, eqb, ltb}
 use Rattle.level_tables.specs.Numbers.{none, number_at}
 
 -- so many numbers from a place on are 0
@@ -34,26 +34,26 @@ unfoldable pub settled_at : List ℕ → ℕ → ℕ → ℕ → ℕ → Bool
 settled_at w base slot a b = eqb (number_at w slot) 0 || is_pair w base a b (number_at w slot - 1)
 
 -- what the search for a pair's slot gives
-pub data Slot (w : List ℕ) (base a b : ℕ) : ℕ → Type 0 where
-  no_slot : Slot w base a b none
-  slot_at : {slot : ℕ} → settled_at w base slot a b ≡ true → Slot w base a b slot
+abbrev pub Slot : List ℕ → ℕ → ℕ → ℕ → Option ℕ → Type 0
+Slot w base a b None = Unit {0}
+Slot w base a b (Some slot) = settled_at w base slot a b ≡ true
 
 -- what the search for a pair gives: none, or the number of that pair
-pub data Found (w : List ℕ) (base a b : ℕ) : ℕ → Type 0 where
-  absent : Found w base a b none
-  present : {i : ℕ} → is_pair w base a b i ≡ true → Found w base a b i
+abbrev pub Found : List ℕ → ℕ → ℕ → ℕ → Option ℕ → Type 0
+Found w base a b None = Unit {0}
+Found w base a b (Some i) = is_pair w base a b i ≡ true
 
 -- the slice with pair n, and n + 1 in its slot and as the count
 abbrev pub with_pair : List ℕ → ℕ → ℕ → ℕ → ℕ → ℕ → List ℕ
 with_pair w base slot n a b = set (set (set (set w (pair_place base n 2) a) (pair_place base n 3) b) slot (n + 1)) (base + 1) (n + 1)
 
 -- a new pair is stored behind the others, unless the table is full
-pub data Appended (w : List ℕ) (base slot a b : ℕ) : List ℕ → ℕ → Type 0 where
-  no_room : Appended w base slot a b w none
-  stored : {n : ℕ} {after : List ℕ} → n ≡ count_of w base → after ≡ with_pair w base slot n a b → Appended w base slot a b after n
+abbrev pub Appended : List ℕ → ℕ → ℕ → ℕ → ℕ → List ℕ → Option ℕ → Type 0
+Appended w base slot a b after None = after ≡ w
+Appended w base slot a b after (Some n) = (n ≡ count_of w base) × (after ≡ with_pair w base slot n a b)
 
 -- what entering a pair gives: nothing changes where it is there or where there is no room
-pub data Entered (w : List ℕ) (base a b : ℕ) : List ℕ → ℕ → Type 0 where
-  full : Entered w base a b w none
-  there : {i : ℕ} → is_pair w base a b i ≡ true → Entered w base a b w i
-  new : (slot : ℕ) {n : ℕ} {after : List ℕ} → n ≡ count_of w base → after ≡ with_pair w base slot n a b → Entered w base a b after n
+pub data Entered (w : List ℕ) (base a b : ℕ) : List ℕ → Option ℕ → Type 0 where
+  full : Entered w base a b w None
+  there : {i : ℕ} → is_pair w base a b i ≡ true → Entered w base a b w (Some i)
+  new : (slot : ℕ) {n : ℕ} {after : List ℕ} → n ≡ count_of w base → after ≡ with_pair w base slot n a b → Entered w base a b after (Some n)

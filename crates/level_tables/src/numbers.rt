@@ -1,9 +1,10 @@
 // Numbers by place, and entries of four numbers.
-ghost use Rattle.std.specs.Prelude.{◌≡◌, ◌+◌, ◌≤◌, min, set};
-ghost use Rattle.level_tables.specs.Numbers.{none, number_at, entry_place, in_entry, with_entry};
+ghost use Rattle.std.specs.Prelude.{◌≡◌, ◌≤◌, set};
+ghost use Rattle.level_tables.specs.Numbers.{number_at, entry_place, in_entry, with_entry};
 
 // Stands for no number.
-pub const NONE: usize = 18446744073709551615;
+// Kept a number: it stands in the slice, where each number is one usize, and what is read is handed on to be stored again.
+pub const NONE: usize = usize::MAX;
 
 const MOST_ENTRIES: usize = 65536;
 
@@ -11,7 +12,7 @@ const MOST_ENTRIES: usize = 65536;
 pub fn number_at(w: &[usize], i: usize) -> usize
     ensures { result ≡ number_at w.now i }
 {
-    if i < w.len() { w[i] } else { NONE }
+    w.get(i).copied().unwrap_or(NONE)
 }
 
 // Stores a number at a place; nothing past the slice's end.
@@ -23,14 +24,8 @@ pub fn put(w: &mut [usize], i: usize, x: usize)
     }
 }
 
-// The number after this one; none stays none.
-pub fn after(i: usize) -> usize
-    ensures { result ≡ min (i + 1) none }
-{
-    if i < NONE { i + 1 } else { NONE }
-}
-
-// The place of number k of entry i, counted from an area's first entry on.
+// The place of number k of entry i, counted from an area's first entry on; for no such entry a place that no slice has, so that
+// nothing is read there and nothing stored.
 fn entry_place(first: usize, i: usize, k: usize) -> usize
     requires { first ≤ 65536 }
     ensures { result ≡ entry_place first i k }

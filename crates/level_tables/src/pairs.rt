@@ -18,10 +18,8 @@ fn clear(w: &mut [usize], from: usize, n: usize)
     requires { (from ≤ 1048576) × (n ≤ 1048576) }
     ensures { w.new ≡ zeroed w.old from n }
 {
-    let mut i: usize = 0;
-    while i < n {
+    for i in 0..n {
         numbers::put(w, from + i, 0);
-        i += 1;
     }
 }
 
@@ -42,7 +40,7 @@ pub fn count(w: &[usize], base: usize) -> usize
     numbers::number_at(w, base + 1)
 }
 
-// The place of a number of pair i.
+// The place of a number of pair i; for no such pair a place that no slice has.
 fn pair_place(base: usize, i: usize, k: usize) -> usize
     requires { (base ≤ 1048576) × (k ≤ 3) }
     ensures { result ≡ pair_place base i k }
@@ -99,75 +97,60 @@ fn settled(w: &[usize], base: usize, slot: usize, a: usize, b: usize) -> bool
 }
 
 // The place of a pair's slot, or of the free slot where it belongs; none where there is neither.
-fn slot_of(w: &[usize], base: usize, a: usize, b: usize) -> usize
+fn slot_of(w: &[usize], base: usize, a: usize, b: usize) -> Option<usize>
     requires { base ≤ 1048576 }
     ensures { Slot w.now base a b result }
 {
     let room = numbers::number_at(w, base);
-    if room == 0 {
-        return numbers::NONE;
-    }
-    if MOST_PAIRS < room {
-        return numbers::NONE;
+    if room == 0 || MOST_PAIRS < room {
+        return None;
     }
     let slots = 2 * room;
     let mut s = own_slot(slots, a, b);
-    let mut tried: usize = 0;
-    while tried < slots {
+    for _ in 0..slots {
         let slot = base + 2 + slots + s;
         if settled(w, base, slot, a, b) {
-            return slot;
+            return Some(slot);
         }
         s = next_slot(slots, s);
-        tried += 1;
     }
-    numbers::NONE
+    None
 }
 
 // The number of a pair that is in the table, or none.
-pub fn find(w: &[usize], base: usize, a: usize, b: usize) -> usize
+pub fn find(w: &[usize], base: usize, a: usize, b: usize) -> Option<usize>
     requires { base ≤ 1048576 }
     ensures { Found w.now base a b result }
 {
-    let slot = slot_of(w, base, a, b);
-    if slot == numbers::NONE {
-        return numbers::NONE;
-    }
-    let held = numbers::number_at(w, slot);
-    if held == 0 {
-        return numbers::NONE;
-    }
-    held - 1
+    let slot = slot_of(w, base, a, b)?;
+    numbers::number_at(w, slot).checked_sub(1)
 }
 
 // Stores a new pair, if there is room for it, and gives its number.
-fn append(w: &mut [usize], base: usize, slot: usize, a: usize, b: usize) -> usize
+fn append(w: &mut [usize], base: usize, slot: usize, a: usize, b: usize) -> Option<usize>
     requires { base ≤ 1048576 }
     ensures { Appended w.old base slot a b w.new result }
 {
     let n = count(w, base);
     if numbers::number_at(w, base) <= n {
-        return numbers::NONE;
+        return None;
     }
     numbers::put(w, pair_place(base, n, FIRST), a);
     numbers::put(w, pair_place(base, n, SECOND), b);
     numbers::put(w, slot, n + 1);
     numbers::put(w, base + 1, n + 1);
-    n
+    Some(n)
 }
 
 // The number of a pair, which is entered where it was not there; none where there is no room.
-pub fn enter(w: &mut [usize], base: usize, a: usize, b: usize) -> usize
+pub fn enter(w: &mut [usize], base: usize, a: usize, b: usize) -> Option<usize>
     requires { base ≤ 1048576 }
     ensures { Entered w.old base a b w.new result }
 {
-    let slot = slot_of(w, base, a, b);
-    if slot == numbers::NONE {
-        return numbers::NONE;
-    }
+    let slot = slot_of(w, base, a, b)?;
     let held = numbers::number_at(w, slot);
     if held == 0 {
         return append(w, base, slot, a, b);
     }
-    held - 1
+    Some(held - 1)
 }

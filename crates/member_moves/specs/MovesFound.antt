@@ -12,8 +12,7 @@ use Rattle.walk_state.specs.SetGrowth.{Growth, InHand, Gathered}
 use Rattle.threads_beside.specs.ThreadsBeside.{thread_at}
 use Rattle.walk_state.specs.declared.Basis.{Basis}
 use Rattle.walk_state.specs.declared.Walk.{Walk}
-use Rattle.walk_state.specs.declared.Walked.{Walked}
-use Rattle.walk_state.specs.declared.Walked.TheVariants.{On, Over}
+use Rattle.std.specs.Prelude.{Option, Some, None}
 use Rattle.walk_state.specs.WalkState.{Walking, Covering, OnSheet}
 use Rattle.nodes_to_visit.specs.WorkLayout.{work_end, moves_at}
 
@@ -36,9 +35,9 @@ pub record FoundOver (nodes : List Node) (b : Basis) (v : List ℕ) (s : Walk) (
   pub outside : SameOutside (moves_at + b.first) work_end v w
 
 -- by the answer
-abbrev pub MovesFound : (ℕ → ℕ) → List Node → Basis → List ℕ → Walk → Configuration → List ℕ → Walked → Type 0
-MovesFound rank nodes b v s e w (On t) = FoundOn rank nodes b v s e w t
-MovesFound rank nodes b v s e w Over = FoundOver nodes b v s e w
+abbrev pub MovesFound : (ℕ → ℕ) → List Node → Basis → List ℕ → Walk → Configuration → List ℕ → Option Walk → Type 0
+MovesFound rank nodes b v s e w (Some t) = FoundOn rank nodes b v s e w t
+MovesFound rank nodes b v s e w None = FoundOver nodes b v s e w
 
 -- ---- thread by thread
 -- what the threads below place i give is collected
@@ -60,6 +59,6 @@ pub record NextOver (rank : ℕ → ℕ) (nodes : List Node) (b : Basis) (v : Li
   pub outside : SameOutside (moves_at + b.first) work_end v w
 
 -- by the answer
-abbrev pub NextFound : (ℕ → ℕ) → List Node → Basis → List ℕ → Walk → Configuration → ℕ → List ℕ → Walked → Type 0
-NextFound rank nodes b v s e i w (On t) = NextOn rank nodes b v s e i w t
-NextFound rank nodes b v s e i w Over = NextOver rank nodes b v s e i w
+abbrev pub NextFound : (ℕ → ℕ) → List Node → Basis → List ℕ → Walk → Configuration → ℕ → List ℕ → Option Walk → Type 0
+NextFound rank nodes b v s e i w (Some t) = NextOn rank nodes b v s e i w t
+NextFound rank nodes b v s e i w None = NextOver rank nodes b v s e i w

@@ -26,8 +26,7 @@ use Rattle.nodes_to_visit.specs.NodesToVisit.{pending_one, pending_in, Pushed}
 use Rattle.nodes_to_visit.specs.NodesToVisitLaws.{pushed_all}
 use Rattle.walk_state.specs.declared.Basis.{Basis}
 use Rattle.walk_state.specs.declared.Walk.{Walk}
-use Rattle.walk_state.specs.declared.Walked.{Walked}
-use Rattle.walk_state.specs.declared.Walked.TheVariants.{On, Over}
+use Rattle.std.specs.Prelude.{Option, Some, None}
 use Rattle.walk_state.specs.WalkState.{NodesOf, MemberFits, VisitFits, marks_of, Walking, InReachBelow, Covering, OnSheet, TurnOver}
 use Rattle.walk_state.specs.NotedInWalk.{grown_sheet}
 use Rattle.walk_state.specs.PushedInWalk.{topped, pushed_walking, stored_members, stored_moves, stored_marks, stored_grown}
@@ -185,9 +184,9 @@ module _ {rank : ℕ → ℕ} (nodes : List Node) {b : Basis} {v : List ℕ} {s 
         outside = outside_again (stored_grown k stored).outside a.outside;
       }
 
-  pub walked_next : (w : List ℕ) (r : Walked) → WalkedAs rank nodes b u (topped s 1) w r → NextFound rank nodes b v s e i w r
-  walked_next w (On t) a = walked_on a
-  walked_next w Over a = walked_over a
+  pub walked_next : (w : List ℕ) (r : Option Walk) → WalkedAs rank nodes b u (topped s 1) w r → NextFound rank nodes b v s e i w r
+  walked_next w (Some t) a = walked_on a
+  walked_next w None a = walked_over a
 
 -- ---- threads as they are held
 module _ (e : held.Configuration) (i : ℕ) (l : i < e.count) where
@@ -272,9 +271,9 @@ module _ {rank : ℕ → ℕ} {nodes : List Node} {b : Basis} {v : List ℕ} {s 
       }
 
 -- ---- the answer taken apart
-module _ {rank : ℕ → ℕ} {nodes : List Node} {b : Basis} {v : List ℕ} {s : Walk} {e : Configuration} {i : ℕ} {w : List ℕ} {r : Walked} where
-  pub next_on : {t : Walk} → r ≡ On t → NextFound rank nodes b v s e i w r → NextOn rank nodes b v s e i w t
+module _ {rank : ℕ → ℕ} {nodes : List Node} {b : Basis} {v : List ℕ} {s : Walk} {e : Configuration} {i : ℕ} {w : List ℕ} {r : Option Walk} where
+  pub next_on : {t : Walk} → r ≡ Some t → NextFound rank nodes b v s e i w r → NextOn rank nodes b v s e i w t
   next_on q h = subst (NextFound rank nodes b v s e i w) q h
 
-  pub next_over : r ≡ Over → NextFound rank nodes b v s e i w r → NextOver rank nodes b v s e i w
+  pub next_over : r ≡ None → NextFound rank nodes b v s e i w r → NextOver rank nodes b v s e i w
   next_over q h = subst (NextFound rank nodes b v s e i w) q h

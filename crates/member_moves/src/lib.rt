@@ -9,7 +9,7 @@ ghost use Rattle.walk_state.specs.WalkState.{NodesLent, MemberFits, Walking};
 ghost use Rattle.member_moves.specs.MovesFound.{MovesFound, NextFound};
 
 use sheet_types::{Configuration, TABLE_END};
-use walk_state::{Basis, Walk, Walked};
+use walk_state::{Basis, Walk};
 
 // The moves of the thread at place i. An equal thread before it gives the same.
 fn thread_moves(
@@ -19,7 +19,7 @@ fn thread_moves(
     e: Configuration,
     i: usize,
     s: Walk,
-) -> Walked
+) -> Option<Walk>
     requires { NodesLent rank_of table.now b × Walking rank_of work.old b s
         × (s.top ≡ 0) × MemberFits b (configuration e) × (e.count ≤ 8) × (b.store ≡ e.store) × (i < e.count) }
     ensures { NextFound rank_of (nodes_in (nodes_of table.now) b.nodes) b
@@ -27,7 +27,7 @@ fn thread_moves(
 {
     let own = e.threads;
     if 0 < i && own[i - 1] == own[i] {
-        return Walked::On(s);
+        return Some(s);
     }
     let thread = threads_beside::thread_beside(e, i);
     nodes_to_visit::push(work, 0, thread);
@@ -49,22 +49,16 @@ pub fn moves_of(
     b: Basis,
     e: Configuration,
     s: Walk,
-) -> Walked
+) -> Option<Walk>
     requires { NodesLent rank_of table.now b × Walking rank_of work.old b s
         × (s.top ≡ 0) × (s.marks ≡ 0) × MemberFits b (configuration e) × (e.count ≤ 8) × (b.store ≡ e.store) }
     ensures { MovesFound rank_of (nodes_in (nodes_of table.now) b.nodes) b
         work.old s (configuration e) work.new result }
 {
-    let mut cur = s;
-    let mut i: usize = 0;
     let n = e.count as usize;
-    while i < n {
-        let r = thread_moves(work, table, b, e, i, cur);
-        let Walked::On(next) = r else {
-            return Walked::Over;
-        };
-        cur = next;
-        i += 1;
+    let mut cur = s;
+    for i in 0..n {
+        cur = thread_moves(work, table, b, e, i, cur)?;
     }
-    Walked::On(cur)
+    Some(cur)
 }

@@ -1,5 +1,5 @@
 -- What entering a configuration gives.
-use Rattle.std.specs.Prelude.{◌≡◌, ◌⊎◌, ℕ, ◌+◌, ◌≤◌, ◌<◌}
+use Rattle.std.specs.Prelude.{Option, Some, None, ◌≡◌, ◌⊎◌, ℕ, ◌+◌, ◌≤◌, ◌<◌}
 use Rattle.std.proofs.Common.{subst}
 use mathlib.Core.List.{List, Memᴰ}
 use Rattle.move_laws.specs.Lists.{enter}
@@ -7,7 +7,6 @@ use Rattle.packing.specs.Frames.{SameOutside}
 use Rattle.move_laws.specs.Sheet.{Configuration}
 use Rattle.packing.specs.Orders.{configuration_before}
 use Rattle.member_table.specs.declared.Entry.{Entry}
-use Rattle.member_table.specs.declared.Entry.TheVariants.{Member, Full}
 use Rattle.member_table.specs.MemberTable.{member_in, id_in, members_in, ordered_in, Kept}
 use Rattle.work_layout.specs.WorkLayout.{table_length}
 
@@ -24,14 +23,14 @@ pub record EnteredIn (v : List ℕ) (n limit : ℕ) (p : Configuration) (w : Lis
   pub outside : SameOutside 0 table_length v w
 
 -- by the answer: p is a member now, or there is no room for it
-abbrev pub EntryIn : List ℕ → ℕ → ℕ → Configuration → List ℕ → Entry → Type 0
-EntryIn v n limit p w (Member id m at) = EnteredIn v n limit p w id m at
-EntryIn v n limit p w Full = (n ≡ limit) × (w ≡ v) × (Memᴰ p (members_in v n) → ⊥)
+abbrev pub EntryIn : List ℕ → ℕ → ℕ → Configuration → List ℕ → Option Entry → Type 0
+EntryIn v n limit p w (Some e) = EnteredIn v n limit p w e.id e.members e.at
+EntryIn v n limit p w None = (n ≡ limit) × (w ≡ v) × (Memᴰ p (members_in v n) → ⊥)
 
 -- ---- the answer taken apart
-module _ {v : List ℕ} {n limit : ℕ} {p : Configuration} {w : List ℕ} {r : Entry} where
-  pub entry_member : {id m at : ℕ} → r ≡ Member id m at → EntryIn v n limit p w r → EnteredIn v n limit p w id m at
+module _ {v : List ℕ} {n limit : ℕ} {p : Configuration} {w : List ℕ} {r : Option Entry} where
+  pub entry_member : {e : Entry} → r ≡ Some e → EntryIn v n limit p w r → EnteredIn v n limit p w e.id e.members e.at
   entry_member e h = subst (EntryIn v n limit p w) e h
 
-  pub entry_full : r ≡ Full → EntryIn v n limit p w r → (n ≡ limit) × (w ≡ v) × (Memᴰ p (members_in v n) → ⊥)
+  pub entry_full : r ≡ None → EntryIn v n limit p w r → (n ≡ limit) × (w ≡ v) × (Memᴰ p (members_in v n) → ⊥)
   entry_full e h = subst (EntryIn v n limit p w) e h

@@ -1,3 +1,15 @@
+pub use Rattle.number_lists.specs.AscendingLaws
+pub use Rattle.number_lists.specs.Entered
+pub use Rattle.number_lists.specs.EnteredLaws
+pub use Rattle.number_lists.specs.Frames
+pub use Rattle.number_lists.specs.ListPlaces
+pub use Rattle.number_lists.specs.Lists
+pub use Rattle.number_lists.specs.Members
+pub use Rattle.number_lists.specs.NumberLaws
+pub use Rattle.number_lists.specs.NumberLists
+pub use Rattle.number_lists.specs.PlacesPassed
+pub use Rattle.number_lists.specs.Tabulate
+pub use Rattle.number_lists.specs.TabulateLaws
 pub use Rattle.move_laws.specs.FactSetLaws
 pub use Rattle.packing.specs.Moves
 pub use Rattle.move_laws.specs.OpeningLaws

@@ -13,7 +13,7 @@ use Rattle.move_laws.specs.OrderLaws.{configuration_order}
 use Rattle.packing.specs.declared.Numbers.{Numbers}
 use Rattle.packing.specs.Packing.{unpacked, stands_for, PackedIn}
 use Rattle.member_table.specs.MemberTable.{numbers_in, member_in, id_in, placed_in, members_in, ordered_in, Kept}
-use Rattle.member_table.specs.MemberSearch.{Placed}
+use Rattle.member_table.specs.MemberSearch.{StandsAt, MissingAt}
 use Rattle.packing.specs.RaisedNumbers.{Raised, raised_behind}
 use Rattle.member_table.specs.MemberLaws.{ordered_in_lem}
 use Rattle.member_table.specs.EntryFound.{EnteredIn}
@@ -98,9 +98,9 @@ module _ (v w : List ℕ) (n at : ℕ) (x : Numbers) (k : Kept v n) (i : PutIn v
       ap (λ (s : ℕ). unpacked s (get_or w (3 * n + 1) 0) (get_or w (3 * n + 2) 0)) i.key.0
       ∙ ap₂ (λ (s t : ℕ). unpacked x.a s t) i.key.1 i.key.2
 
-  pub put_ordered : Placed v n (stands_for x) false at → ordered_in w (n + 1) ≡ enter configuration_before (stands_for x) (ordered_in v n)
+  pub put_ordered : MissingAt v n (stands_for x) at → ordered_in w (n + 1) ≡ enter configuration_before (stands_for x) (ordered_in v n)
   put_ordered p =
-      enter_tabulate configuration_order (placed_in v) (placed_in w) (stands_for x) at n p.within p.below (p.above refl)
+      enter_tabulate configuration_order (placed_in v) (placed_in w) (stands_for x) at n p.within p.below p.above
       (λ j h. ap (member_in w) (i.earlier j h) ∙ member_same (id_in v j) (k.ids j (omega (arith, p.within))))
       (ap (member_in w) i.here ∙ member_new)
       (λ j h l. ap (member_in w) (i.later j h l) ∙ member_same (id_in v j) (k.ids j l))
@@ -138,7 +138,7 @@ module _ (v w : List ℕ) (n at : ℕ) (x : Numbers) (k : Kept v n) (i : PutIn v
           omega (arith, r)
 
   -- p was no member
-  pub entered_new : (limit : ℕ) → n < limit → limit ≤ member_room → PackedIn x → Placed v n (stands_for x) false at
+  pub entered_new : (limit : ℕ) → n < limit → limit ≤ member_room → PackedIn x → MissingAt v n (stands_for x) at
       → EnteredIn v n limit (stands_for x) w n (n + 1) at
   entered_new limit h z q p =
       record {
@@ -161,26 +161,25 @@ module _ (v w : List ℕ) (n at : ℕ) (x : Numbers) (k : Kept v n) (i : PutIn v
       }
 
 -- p stands there already
-pub entered_old : (v : List ℕ) (n limit : ℕ) (p : Configuration) (at : ℕ) → Kept v n → n ≤ limit → Placed v n p true at
+pub entered_old : (v : List ℕ) (n limit : ℕ) (p : Configuration) (at : ℕ) → Kept v n → n ≤ limit → StandsAt v n p at
     → EnteredIn v n limit p v (id_in v at) n at
 entered_old v n limit p at k l q =
-    let h = q.hit refl in
     record {
       kept = k;
       most = l;
       ordered =
           sym (enter_there configuration_order p (ordered_in v n) k.ascends
-          (subst (λ (x : Configuration). Memᴰ x (ordered_in v n)) h.1 (mem_tabulate (placed_in v) n at h.0)));
+          (subst (λ (x : Configuration). Memᴰ x (ordered_in v n)) q.same (mem_tabulate (placed_in v) n at q.within)));
       members = refl;
-      named = (k.ids at h.0, h.1);
-      placed = (h.0, refl);
+      named = (k.ids at q.within, q.same);
+      placed = (q.within, refl);
       earlier = λ j l. refl;
       fresh = inl (refl, refl);
       outside = outside_same 0 table_length v;
     }
 
 -- p stands nowhere
-pub placed_apart : (v : List ℕ) (n : ℕ) (p : Configuration) (at : ℕ) → Kept v n → Placed v n p false at → Memᴰ p (members_in v n) → ⊥
+pub placed_apart : (v : List ℕ) (n : ℕ) (p : Configuration) (at : ℕ) → Kept v n → MissingAt v n p at → Memᴰ p (members_in v n) → ⊥
 placed_apart v n p at k q m =
     let j = ordered_in_lem v n k m in
     let e : p ≡ placed_in v j.0 = j.2 in
@@ -191,4 +190,4 @@ placed_apart v n p at k q m =
 
     go : (j : ℕ) → j < n → p ≡ placed_in v j → (t : Bool) → ltb j at ≡ t → ⊥
     go j h e true t = never (subst (λ (z : Configuration). configuration_before z p ≡ true) (sym e) (q.below j (ltb-true j at t)))
-    go j h e false t = never (subst (λ (z : Configuration). configuration_before p z ≡ true) (sym e) (q.above refl j (ltb-false j at t) h))
+    go j h e false t = never (subst (λ (z : Configuration). configuration_before p z ≡ true) (sym e) (q.above j (ltb-false j at t) h))

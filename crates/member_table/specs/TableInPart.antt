@@ -1,5 +1,5 @@
 -- Members in a part of a longer slice that is lent and comes back.
-use Rattle.std.specs.Prelude.{◌≡◌, ◌⊎◌, List, ◌++◌, ℕ, ◌+◌, ◌-◌, ◌≤◌, ◌<◌, length, take, drop}
+use Rattle.std.specs.Prelude.{Option, ◌≡◌, ◌⊎◌, List, ◌++◌, ℕ, ◌+◌, ◌-◌, ◌≤◌, ◌<◌, length, take, drop}
 use Rattle.std.proofs.Common.{sym, ap, ◌∙◌, subst, arith, length-append, length-take, length-drop, drop_at, take_at, length-take-le}
 use borrow.Rule.Slice.PartMut.{put_mid, mid_of, post_of, mid_len, take_put, drop_put}
 use Rattle.packing.specs.Frames.{SameOutside, outside_of_ends, outside_part, outside_whole}
@@ -45,7 +45,7 @@ length_back : (w ys : List ℕ) (base : ℕ) → base + table_length ≤ length 
 length_back w ys base h l = simp (length-append, length-take, length-drop) (omega arith)
 
 -- entered in the part, and all else left alone
-pub entry_part : (w ys : List ℕ) (base n limit : ℕ) (p : Configuration) (r : Entry) → base + table_length ≤ length w
+pub entry_part : (w ys : List ℕ) (base n limit : ℕ) (p : Configuration) (r : Option Entry) → base + table_length ≤ length w
     → length ys ≡ length (mid_of base (base + table_length - base) w) → EntryIn (mid_of base (base + table_length - base) w) n limit p ys r
     → EntryIn (part_at w base) n limit p (part_at (put_mid base (base + table_length - base) w ys) base) r
     × SameOutside base (base + table_length) w (put_mid base (base + table_length - base) w ys)

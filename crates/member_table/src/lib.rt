@@ -12,20 +12,15 @@ ghost use Rattle.member_table.specs.EntryFound.{EntryIn};
 ghost use Rattle.member_table.specs.MemberEntered.{PutIn};
 
 use packing::Numbers;
+use std::cmp::Ordering;
 use work_layout::{TABLE_IDS, TABLE_LENGTH};
 
-// A member's id, the number of members, and the member's place in the order; or no room for one more.
-#[derive(Drop)]
-pub enum Entry {
-    Member(usize, usize, usize),
-    Full,
-}
-
-// Where a configuration stands in the order, or the place where it is to be put in.
-#[derive(Drop)]
-struct Spot {
-    found: bool,
-    at: usize,
+// A member's id, the number of members, and the member's place in the order.
+#[derive(Clone, Copy)]
+pub struct Entry {
+    pub id: usize,
+    pub members: usize,
+    pub at: usize,
 }
 
 // The id at place j of the order of n members.
@@ -48,8 +43,8 @@ fn key_in(work: &[u32], n: usize, id: usize) -> Numbers
     }
 }
 
-// The member at place j of the order beside a configuration: 0 before it, 2 after it, 1 the same.
-fn side(work: &[u32], n: usize, j: usize, x: Numbers) -> u8
+// The member at place j of the order beside a configuration.
+fn side(work: &[u32], n: usize, j: usize, x: Numbers) -> Ordering
     requires { Kept work.now n × PackedIn x × (j < n) }
     ensures { result ≡ side_of (configuration_before (placed_in work.now j) (stands_for x)) (configuration_before (stands_for x) (placed_in work.now j)) }
 {
@@ -58,32 +53,22 @@ fn side(work: &[u32], n: usize, j: usize, x: Numbers) -> u8
     key.compare(x)
 }
 
-// The place of a configuration in the order of n members, by halving.
-fn place(work: &[u32], n: usize, x: Numbers) -> Spot
+// The place of a configuration in the order of n members, by halving: where it stands, or where it is to be put in.
+fn place(work: &[u32], n: usize, x: Numbers) -> Result<usize, usize>
     requires { Kept work.now n × PackedIn x }
-    ensures { Placed work.now n (stands_for x) result.found result.at }
+    ensures { Placed work.now n (stands_for x) result }
 {
     let mut low: usize = 0;
     let mut high: usize = n;
     while low < high {
         let mid = low + (high - low) / 2;
-        let s = side(work, n, mid, x);
-        if s == 1 {
-            return Spot {
-                found: true,
-                at: mid,
-            };
-        }
-        if s == 0 {
-            low = mid + 1;
-        } else {
-            high = mid;
+        match side(work, n, mid, x) {
+            Ordering::Less => low = mid + 1,
+            Ordering::Equal => return Ok(mid),
+            Ordering::Greater => high = mid,
         }
     }
-    Spot {
-        found: false,
-        at: low,
-    }
+    Err(low)
 }
 
 // Puts member n in at a place of the order.
@@ -91,31 +76,37 @@ fn put_in(work: &mut [u32], n: usize, at: usize, x: Numbers)
     requires { (at ≤ n) × (n < member_room) × (table_length ≤ length work.old) }
     ensures { PutIn work.old n at x work.new }
 {
-    number_lists::shift_up(work, TABLE_IDS + at, TABLE_IDS + n);
+    number_lists::shift_up::<1>(work, TABLE_IDS + at, TABLE_IDS + n);
     work[TABLE_IDS + at] = n as u32;
     number_lists::put_three(work, 3 * n, x.a, x.b, x.c);
 }
 
-// Enters a configuration, unless it is a member already or there are limit members.
-fn enter(work: &mut [u32], n: usize, limit: usize, x: Numbers) -> Entry
+// Enters a configuration, unless it is a member already; none where there are limit members.
+fn enter(work: &mut [u32], n: usize, limit: usize, x: Numbers) -> Option<Entry>
     requires { Kept work.old n × PackedIn x × (n ≤ limit) × (limit ≤ member_room) }
     ensures { EntryIn work.old n limit (stands_for x) work.new result }
 {
-    let spot = place(work, n, x);
-    let at = spot.at;
-    if spot.found {
-        let id = id_in(work, n, at);
-        return Entry::Member(id, n, at);
+    match place(work, n, x) {
+        Ok(at) => {
+            let id = id_in(work, n, at);
+            Some(Entry { id, members: n, at })
+        }
+        Err(at) => {
+            if n == limit {
+                return None;
+            }
+            put_in(work, n, at, x);
+            Some(Entry {
+                id: n,
+                members: n + 1,
+                at,
+            })
+        }
     }
-    if n == limit {
-        return Entry::Full;
-    }
-    put_in(work, n, at, x);
-    Entry::Member(n, n + 1, at)
 }
 
 // The same in the part of a longer slice that starts at base.
-pub fn enter_at(work: &mut [u32], base: usize, n: usize, limit: usize, x: Numbers) -> Entry
+pub fn enter_at(work: &mut [u32], base: usize, n: usize, limit: usize, x: Numbers) -> Option<Entry>
     requires { Kept (part_at work.old base) n × PackedIn x × (n ≤ limit) × (limit ≤ member_room) }
     ensures { EntryIn (part_at work.old base) n limit (stands_for x) (part_at work.new base) result
         × SameOutside base (base + table_length) work.old work.new }

@@ -1,55 +1,16 @@
--- Laws of the marks of marks: the mark of a node by its kind, and one mark more.
-use Rattle.std.specs.Prelude.{◌≡◌, refl, Bool, true, false, cond, List, [], ◌∷◌, ◌++◌, ℕ, zero, suc, ◌+◌, ◌<◌, length, get_or, set, eqb, ltb}
-use Rattle.std.proofs.Common.{sym, ap, ◌∙◌, arith, length-append, get_or-set_same, get_or-set_other, eq-eqb, ne_eqb, ltb-true, ltb-false}
+-- Laws of the marks of nodes: one mark more.
+use Rattle.std.specs.Prelude.{◌≡◌, Bool, true, false, cond, List, [], ◌∷◌, ◌++◌, ℕ, zero, suc, ◌+◌, ◌<◌, length, get_or, set, eqb, ltb}
+use Rattle.std.proofs.Common.{sym, ap, ◌∙◌, arith, length-append, get_or-set_same, get_or-set_other, ltb-true, ltb-false}
 use Rattle.std.proofs.Math.ListN.{get_or-append}
 use Rattle.std.proofs.Math.Seq.{get_or-append_seam}
 use Rattle.sheet_types.specs.TestLaws.{Tested, passes, fails, tested}
-use Rattle.sheet_types.specs.Sheet.{Node, stop, tell, ask, both, either, node_of}
+use Rattle.sheet_types.specs.Sheet.{Node, stop, node_of}
 use Rattle.node_opening.specs.Ranks.{Part, Ranked, rank_of, parts_map}
 use Rattle.node_opening.specs.Ranks.{LowerNames}
 use Rattle.node_opening.specs.OpeningLaws.{ranked_next}
-use Rattle.sheet_types.specs.HeldSheet.{node_held}
 use Rattle.node_moves.specs.NodeMoves.{movable_of, movable}
 use Rattle.node_moves.specs.NodeMoveLaws.{movable_same, movable_is}
 use Rattle.movable_nodes.specs.Movability.{mark, marked, mark_for, MovableHeld}
-
--- ---- the mark of two parts
-module _ (marks : List ℕ) (p q : ℕ) where
-  pub first_marked : get_or marks p 0 ≡ 1 → 1 ≡ mark_for marks (either p q)
-  first_marked h = simp (eq-eqb _ _ h)
-
-  pub second_marked : (get_or marks p 0 ≡ 1 → ⊥) → get_or marks q 0 ≡ 1 → 1 ≡ mark_for marks (either p q)
-  second_marked a h = simp (ne_eqb _ _ a, eq-eqb _ _ h)
-
-  pub none_marked_lem : (get_or marks p 0 ≡ 1 → ⊥) → (get_or marks q 0 ≡ 1 → ⊥) → 0 ≡ mark_for marks (either p q)
-  none_marked_lem a b = simp (ne_eqb _ _ a, ne_eqb _ _ b)
-
--- ---- the mark of a node by its kind byte
-module _ (marks : List ℕ) (kind first second : ℕ) where
-  pub mark_of_stop : kind ≡ 0 → 0 ≡ mark_for marks (node_held kind first second)
-  mark_of_stop e = rw e
-
-  pub mark_of_tell : kind ≡ 1 → 1 ≡ mark_for marks (node_held kind first second)
-  mark_of_tell e = rw e
-
-  pub mark_of_ask : kind ≡ 2 → 1 ≡ mark_for marks (node_held kind first second)
-  mark_of_ask e = rw e
-
-  module _ (not-stop : kind ≡ 0 → ⊥) (not-tell : kind ≡ 1 → ⊥) (not-ask : kind ≡ 2 → ⊥) where
-    -- a both has the mark of an either with the same parts
-    pub mark_of_pair : mark_for marks (either first second) ≡ mark_for marks (node_held kind first second)
-    mark_of_pair = rw (ne_eqb kind 0 not-stop, ne_eqb kind 1 not-tell, ne_eqb kind 2 not-ask) (go (eqb kind 3))
-      where
-        go : (b : Bool) → mark_for marks (either first second) ≡ mark_for marks (cond b (both first second) (either first second))
-        go true = refl
-        go false = refl
-
-    pub pair_lower : (n : ℕ) → LowerNames n (node_held kind first second) → (first < n) × (second < n)
-    pair_lower n l = go (eqb kind 3) (rw (ne_eqb kind 0 not-stop, ne_eqb kind 1 not-tell, ne_eqb kind 2 not-ask) at l)
-      where
-        go : (b : Bool) → LowerNames n (cond b (both first second) (either first second)) → (first < n) × (second < n)
-        go true h = h
-        go false h = h
 
 -- ---- the marks of nodes as they are read
 -- nodes after k do not matter

@@ -8,7 +8,6 @@ ghost use Rattle.walk_state.specs.ThreadsBeside.{node_for};
 ghost use Rattle.node_marks.specs.NodeMarks.{SeenAs, MarkedAs};
 ghost use Rattle.work_layout.specs.WorkLayout.{marks_at, pending_end};
 
-use member_table::Entry;
 use packing::Numbers;
 use work_layout::{MARKS, PENDING};
 
@@ -24,10 +23,10 @@ fn mark(work: &mut [u32], marks: usize, x: Numbers) -> Marked
     requires { Kept (part_at work.old marks_at) marks × PackedIn x }
     ensures { MarkedAs work.old marks (node_for x) work.new result }
 {
-    let r = member_table::enter_at(work, MARKS, marks, 512, x);
-    let Entry::Member(_, n, _) = r else {
+    let found = member_table::enter_at(work, MARKS, marks, 512, x);
+    let Some(e) = found else {
         let again = member_table::enter_at(work, MARKS, 0, 512, x);
-        let Entry::Member(_, one, _) = again else {
+        let Some(one) = again else {
             return Marked {
                 fresh: true,
                 marks: 0,
@@ -35,12 +34,12 @@ fn mark(work: &mut [u32], marks: usize, x: Numbers) -> Marked
         };
         return Marked {
             fresh: true,
-            marks: one,
+            marks: one.members,
         };
     };
     Marked {
-        fresh: marks < n,
-        marks: n,
+        fresh: marks < e.members,
+        marks: e.members,
     }
 }
 

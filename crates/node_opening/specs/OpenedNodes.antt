@@ -138,12 +138,6 @@ module _ (o : Opened) (k kind first second : ℕ) where
   pub opens_stop : kind ≡ 0 → open_node o k (node_held kind first second) ≡ record { count = 0; opened = holding o k [] }
   opens_stop e = rw e
 
-  pub opens_both : kind ≡ 3 → open_node o k (node_held kind first second) ≡ open_node o k (both first second)
-  opens_both e = rw e
-
-  pub lower_both : kind ≡ 3 → LowerNames k (node_held kind first second) → (first < k) × (second < k)
-  lower_both e l = rw e at l
-
   -- any other kind opens to itself
   pub opens_alone : (kind ≡ 0 → ⊥) → (kind ≡ 3 → ⊥) → open_node o k (node_held kind first second) ≡ record { count = 1; opened = holding o k (k ∷ []) }
   opens_alone a b = rw (ne_eqb kind 0 a, ne_eqb kind 3 b) (go (eqb kind 1) (eqb kind 2))

@@ -1,34 +1,17 @@
 -- One node stored in the table: its two numbers of a byte, its number of two bytes, its mark; and what the second field can be.
-use Rattle.std.specs.Prelude.{◌≡◌, refl, true, false, ◌⊎◌, List, ℕ, ◌+◌, ◌*◌, ◌/◌, ◌%◌, ◌≤◌, ◌<◌, length, get_or, set, take, drop, eqb, ltb}
+use Rattle.std.specs.Prelude.{◌≡◌, ◌⊎◌, List, ℕ, ◌+◌, ◌*◌, ◌/◌, ◌%◌, ◌≤◌, ◌<◌, length, get_or, set, drop, eqb, ltb}
 use Rattle.std.proofs.Common.{sym, ap, ap₂, ◌∙◌, inl, inr, arith, length-take, length-drop, length-set, drop-set-lt, get_or-set_same, get_or-set_other, ext_get_or, eqb-true, ltb-true, ltb-false}
 use Rattle.std.proofs.lemmas.Bool.{eqb-false}
 use Rattle.sheet_types.specs.TestLaws.{Tested, passes, fails, tested}
 use Rattle.sheet_types.specs.Tabulate.{tabulate_at, tabulate_length}
-use Rattle.set_closure.specs.SheetLimits.{max_nodes, max_threads}
+use Rattle.set_closure.specs.SheetLimits.{max_nodes}
 use Rattle.sheet_types.specs.Reading.{got, second_at}
 use Rattle.sheet_types.specs.Sheet.{Node}
 use Rattle.node_opening.specs.Ranks.{parts_map}
 use Rattle.node_opening.specs.Ranks.{LowerNames}
 use Rattle.sheet_fields.specs.FieldLaws.{second_unused, second_any, second_below, unused_gets, below_gets}
 use Rattle.sheet_types.specs.HeldSheet.{node_held}
-use Rattle.sheet_types.specs.NodeTable.{
-  Nodes,
-  Opened,
-  column,
-  paired,
-  nodes_from,
-  nodes_of,
-  opened_of,
-  movables_of,
-  kinds_at,
-  first_lows_at,
-  first_highs_at,
-  seconds_at,
-  counts_at,
-  movables_at,
-  threads_at,
-  table_end,
-}
+use Rattle.sheet_types.specs.NodeTable.{column, paired, nodes_from, nodes_of, opened_of, movables_of, kinds_at, first_lows_at, first_highs_at, seconds_at, counts_at, movables_at, threads_at, table_end}
 use Rattle.sheet_types.specs.NodeTableLaws.{column_other, column_set}
 use Rattle.movable_nodes.specs.Movability.{mark_for}
 use Rattle.node_reader.specs.NodesFound.{Room, NodePut}

@@ -6,26 +6,42 @@ ghost use Rattle.set_closure.specs.SheetLimits.{max_facts, max_rules, min_nodes,
 ghost use Rattle.sheet_types.specs.Reading.{node_at, nodes_at, records_from};
 ghost use Rattle.node_opening.specs.Ranks.{LowerNames};
 ghost use Rattle.set_closure.specs.RuleTable.{rules_in};
+ghost use Rattle.sheet_types.specs.KindBytes.{kind_byte};
 ghost use Rattle.sheet_types.specs.HeldSheet.{node_held};
 ghost use Rattle.sheet_types.specs.NodeTable.{table_end};
 ghost use Rattle.node_reader.specs.FirstFields.{closed_first};
-ghost use Rattle.node_reader.specs.NodesFound.{NodeFound, NodePut, NodesFound, no_nodes};
+ghost use Rattle.node_reader.specs.NodesFound.{NodeFound, NodePut, NodesFound};
 
-use sheet_types::{
-    FIRST_HIGHS, FIRST_LOWS, KINDS, MOVABLES, NodeRead, NodesRead, SECONDS, Section, Sheet,
-    TABLE_END,
-};
+use refusals::{Refusal, Refused};
+use sheet_types::{FIRST_HIGHS, FIRST_LOWS, KINDS, Kind, MOVABLES, SECONDS, Sheet, TABLE_END};
 
 const MAX_THREADS: usize = Sheet::MAX_THREADS as usize;
 
+// The fields of a node, its set closed, and the place after it.
+#[derive(Clone, Copy)]
+pub struct NodeFields {
+    pub kind: Kind,
+    pub first: u16,
+    pub second: u16,
+    pub next: usize,
+}
+
+// So many nodes, the table that holds them, and the place after them.
+#[derive(Drop)]
+pub struct NodesRead {
+    pub count: u16,
+    pub table: [u8; TABLE_END],
+    pub next: usize,
+}
+
 // The first field as it is held: the set of a tell and an ask is closed.
-fn held_first(rules: &[u16; 64], rule_count: u16, kind: u16, first: u16) -> u16
+fn held_first(rules: &[u16; 64], rule_count: u16, kind: Kind, first: u16) -> u16
     requires { rule_count ≤ max_rules }
-    ensures { result ≡ closed_first (rules_in rules.now rule_count) kind first }
+    ensures { result ≡ closed_first (rules_in rules.now rule_count) (kind_byte kind) first }
 {
     match kind {
-        1 | 2 => set_closure::close(rules, rule_count as usize, first),
-        _ => first,
+        Kind::Tell | Kind::Ask => set_closure::close(rules, usize::from(rule_count), first),
+        Kind::Stop | Kind::Both | Kind::Either => first,
     }
 }
 
@@ -38,62 +54,32 @@ fn node_at(
     nodes: u16,
     number: u16,
     at: usize,
-) -> NodeRead
+) -> Result<NodeFields, Refused>
     requires { (at ≤ length s.now) × (facts ≤ max_facts) × (rule_count ≤ max_rules) }
     ensures { NodeFound facts (rules_in rules.now rule_count) nodes number s.now at result }
 {
-    let k = sheet_fields::kind_at(s, at);
-    let Section::Got(kind, p) = k else {
-        return NodeRead {
-            answer: k,
-            first: 0,
-            second: 0,
-        };
-    };
-    let f = sheet_fields::first_at(s, kind, facts, number, p);
-    let Section::Got(first, q) = f else {
-        return NodeRead {
-            answer: f,
-            first: 0,
-            second: 0,
-        };
-    };
-    let g = sheet_fields::second_at(s, kind, nodes, number, q);
-    let Section::Got(second, next) = g else {
-        return NodeRead {
-            answer: g,
-            first: 0,
-            second: 0,
-        };
-    };
-    NodeRead {
-        answer: Section::Got(kind, next),
-        first: held_first(rules, rule_count, kind, first),
-        second,
-    }
-}
-
-// This answer with zeros beside it.
-fn no_nodes(answer: Section) -> NodesRead
-    ensures { result ≡ no_nodes answer }
-{
-    NodesRead {
-        answer,
-        table: [0; TABLE_END],
-    }
+    let kind = sheet_fields::kind_at(s, at)?;
+    let first = sheet_fields::first_at(s, kind.kind, facts, number, kind.next)?;
+    let second = sheet_fields::second_at(s, kind.kind, nodes, number, first.next)?;
+    Ok(NodeFields {
+        kind: kind.kind,
+        first: held_first(rules, rule_count, kind.kind, first.value),
+        second: second.value,
+        next: second.next,
+    })
 }
 
 // The fields of node k stored, and whether it can move, which the table has of the nodes it is made of.
-fn put_node(table: &mut [u8; TABLE_END], k: usize, kind: u16, first: u16, second: u16)
-    requires { (k < max_nodes) × (kind < 256) × (second < 256) × (length table.old ≡ table_end) × LowerNames max_nodes (node_held kind first second) }
-    ensures { NodePut table.old k kind first second table.new }
+fn put_node(table: &mut [u8; TABLE_END], k: usize, kind: Kind, first: u16, second: u16)
+    requires { (k < max_nodes) × (second < 256) × (length table.old ≡ table_end) × LowerNames max_nodes (node_held (kind_byte kind) first second) }
+    ensures { NodePut table.old k (kind_byte kind) first second table.new }
 {
-    let mark = movable_nodes::movable_by(table, kind, first, second);
-    table[KINDS + k] = kind as u8;
+    let moves = movable_nodes::movable_by(table, kind, first, second);
+    table[KINDS + k] = u8::from(kind);
     table[FIRST_LOWS + k] = (first % 256) as u8;
     table[FIRST_HIGHS + k] = (first / 256) as u8;
     table[SECONDS + k] = second as u8;
-    table[MOVABLES + k] = mark;
+    table[MOVABLES + k] = u8::from(moves);
 }
 
 // n nodes, each with the threads that it opens to.
@@ -104,48 +90,46 @@ fn nodes_from(
     rule_count: u16,
     n: u16,
     at: usize,
-) -> NodesRead
+) -> Result<NodesRead, Refused>
     requires { (at ≤ length s.now) × (facts ≤ max_facts) × (rule_count ≤ max_rules) × (min_nodes ≤ n) × (n ≤ max_nodes) }
     ensures { NodesFound (records_from (node_at facts (rules_in rules.now rule_count) n s.now) n [] at) s.now result }
 {
     let mut table = [0u8; TABLE_END];
-    let mut p = at;
-    let mut i: u16 = 0;
-    while i < n {
-        let r = node_at(s, facts, rules, rule_count, n, i, p);
-        let answer = r.answer;
-        let Section::Got(kind, next) = answer else {
-            return no_nodes(answer);
-        };
-        let k = i as usize;
-        let count = node_opening::open_node(&mut table, kind, r.first, r.second, k);
+    let mut next = at;
+    for i in 0..n {
+        let node = node_at(s, facts, rules, rule_count, n, i, next)?;
+        let k = usize::from(i);
+        let count = node_opening::open_node(&mut table, node.kind, node.first, node.second, k);
         if MAX_THREADS < count {
-            return no_nodes(Section::Refused(refusals::WIDE_NODE, p));
+            return Err(Refusal::WideNode.at(next));
         }
-        put_node(&mut table, k, kind, r.first, r.second);
-        p = next;
-        i += 1;
+        put_node(&mut table, k, node.kind, node.first, node.second);
+        next = node.next;
     }
-    NodesRead {
-        answer: Section::Got(n, p),
+    Ok(NodesRead {
+        count: n,
         table,
-    }
+        next,
+    })
 }
 
-// The nodes and the threads that each opens to. Beside a refusal the arrays are zeros.
-pub fn nodes_at(s: &[u8], facts: u16, rules: &[u16; 64], rule_count: u16, at: usize) -> NodesRead
+// The nodes and the threads that each opens to.
+pub fn nodes_at(
+    s: &[u8],
+    facts: u16,
+    rules: &[u16; 64],
+    rule_count: u16,
+    at: usize,
+) -> Result<NodesRead, Refused>
     requires { (at ≤ length s.now) × (facts ≤ max_facts) × (rule_count ≤ max_rules) }
     ensures { NodesFound (nodes_at facts (rules_in rules.now rule_count) s.now at) s.now result }
 {
-    let r = sheet_fields::count_at(
+    let n = sheet_fields::count_at(
         s,
         at,
         Sheet::MIN_NODES,
         Sheet::MAX_NODES,
-        refusals::WRONG_NODES,
-    );
-    let Section::Got(n, next) = r else {
-        return no_nodes(r);
-    };
-    nodes_from(s, facts, rules, rule_count, n, next)
+        Refusal::WrongNodes,
+    )?;
+    nodes_from(s, facts, rules, rule_count, n.value, n.next)
 }

@@ -18,8 +18,7 @@ use Rattle.walk_state.specs.SetGrowth.{Growth, InHand}
 use Rattle.nodes_to_visit.specs.NodesToVisit.{pending_one, pending_in}
 use Rattle.walk_state.specs.declared.Basis.{Basis}
 use Rattle.walk_state.specs.declared.Walk.{Walk}
-use Rattle.walk_state.specs.declared.Walked.{Walked}
-use Rattle.walk_state.specs.declared.Walked.TheVariants.{On, Over}
+use Rattle.std.specs.Prelude.{Option, Some, None}
 use Rattle.walk_state.specs.WalkState.{NodesLent, NodesOf, VisitFits, Walking, InReach, Covering, OnSheet, Carried, TurnOn, TurnOver, Turned}
 use Rattle.walk_state.specs.NotedInWalk.{grown_sheet, noted_none, noted_turn}
 use Rattle.both_either_visits.specs.StoredParts.{NodeKnown}
@@ -111,11 +110,11 @@ module _ {rank : ℕ → ℕ} {b : Basis} {v : List ℕ} {s : Walk} (k : Walking
     pub taken_low : rank y.node + n < 64
     taken_low = subst (λ (z : NodeBeside). rank z.node + n < 64) (sym (same ∙ is)) (last_entry k n last there).height
 
-    pub taken_turned : (nodes : List Node) (u : List ℕ) (t : Walked) → Turned rank nodes b w (unstacked s r.marks n) (y ∷ []) u t
+    pub taken_turned : (nodes : List Node) (u : List ℕ) (t : Option Walk) → Turned rank nodes b w (unstacked s r.marks n) (y ∷ []) u t
         → Turned rank nodes b v s [] u t
-    taken_turned nodes u (On t) h =
+    taken_turned nodes u (Some t) h =
         marked_turn k n last there (subst (λ (z : NodeBeside). TurnOn rank nodes b w (unstacked s r.marks n) (z ∷ []) u t) (same ∙ is) h)
-    taken_turned nodes u Over h =
+    taken_turned nodes u None h =
         marked_turn_over k n last there
         (subst (λ (z : NodeBeside). TurnOver rank nodes b w (unstacked s r.marks n) (z ∷ []) u) (same ∙ is) h)
 
@@ -173,9 +172,9 @@ module _ {rank : ℕ → ℕ} {nodes : List Node} {b : Basis} {v : List ℕ} {s 
       all_collected g m (inr x) = absurd (Memᴰ.not-nil (subst (Memᴰ x.0) none x.1))
 
 -- ---- the answer of a turn taken apart
-module _ {rank : ℕ → ℕ} {nodes : List Node} {b : Basis} {v : List ℕ} {s : Walk} {extra : List NodeBeside} {w : List ℕ} {r : Walked} where
-  pub turned_on : {t : Walk} → r ≡ On t → Turned rank nodes b v s extra w r → TurnOn rank nodes b v s extra w t
+module _ {rank : ℕ → ℕ} {nodes : List Node} {b : Basis} {v : List ℕ} {s : Walk} {extra : List NodeBeside} {w : List ℕ} {r : Option Walk} where
+  pub turned_on : {t : Walk} → r ≡ Some t → Turned rank nodes b v s extra w r → TurnOn rank nodes b v s extra w t
   turned_on e h = subst (Turned rank nodes b v s extra w) e h
 
-  pub turned_over : r ≡ Over → Turned rank nodes b v s extra w r → TurnOver rank nodes b v s extra w
+  pub turned_over : r ≡ None → Turned rank nodes b v s extra w r → TurnOver rank nodes b v s extra w
   turned_over e h = subst (Turned rank nodes b v s extra w) e h

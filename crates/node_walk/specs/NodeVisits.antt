@@ -7,8 +7,7 @@ use Rattle.walk_state.specs.CollectedMoves.{Grown, moves_of}
 use Rattle.walk_state.specs.SetGrowth.{Growth, InHand}
 use Rattle.walk_state.specs.declared.Basis.{Basis}
 use Rattle.walk_state.specs.declared.Walk.{Walk}
-use Rattle.walk_state.specs.declared.Walked.{Walked}
-use Rattle.walk_state.specs.declared.Walked.TheVariants.{On, Over}
+use Rattle.std.specs.Prelude.{Option, Some, None}
 use Rattle.walk_state.specs.WalkState.{Walking, InReach, Covering, OnSheet, TurnOver}
 
 -- no node is left to visit: all is in order, nothing is lost, and what was in reach is collected
@@ -21,6 +20,6 @@ pub record WalkedOn (rank : ℕ → ℕ) (nodes : List Node) (b : Basis) (v : Li
       → (m : Move) → InReach g b v s [] m → Memᴰ m (moves_of w b.first t.running)
 
 -- by the answer: a walk that passes a cap is as a turn that does
-abbrev pub WalkedAs : (ℕ → ℕ) → List Node → Basis → List ℕ → Walk → List ℕ → Walked → Type 0
-WalkedAs rank nodes b v s w (On t) = WalkedOn rank nodes b v s w t
-WalkedAs rank nodes b v s w Over = TurnOver rank nodes b v s [] w
+abbrev pub WalkedAs : (ℕ → ℕ) → List Node → Basis → List ℕ → Walk → List ℕ → Option Walk → Type 0
+WalkedAs rank nodes b v s w (Some t) = WalkedOn rank nodes b v s w t
+WalkedAs rank nodes b v s w None = TurnOver rank nodes b v s [] w

@@ -12,10 +12,16 @@ ghost use Rattle.node_walk.specs.NodeVisits.{WalkedAs};
 use node_marks::see;
 use sheet_types::TABLE_END;
 use threads_beside::NodeBeside;
-use walk_state::{Basis, Walk, Walked};
+use walk_state::{Basis, Walk};
 
 // The node of e by its kind.
-fn visit_kind(work: &mut [u32], table: &[u8; TABLE_END], b: Basis, e: NodeBeside, s: Walk) -> Walked
+fn visit_kind(
+    work: &mut [u32],
+    table: &[u8; TABLE_END],
+    b: Basis,
+    e: NodeBeside,
+    s: Walk,
+) -> Option<Walk>
     requires { NodesLent rank_of table.now b × Walking rank_of work.old b s
         × VisitFits b (node_beside e) × (e.count ≤ 8) × (rank_of e.node + s.top < 64) }
     ensures { Turned rank_of (nodes_in (nodes_of table.now) b.nodes) b work.old s (node_beside e ∷ []) work.new result }
@@ -25,16 +31,16 @@ fn visit_kind(work: &mut [u32], table: &[u8; TABLE_END], b: Basis, e: NodeBeside
     let first = sheet_types::first_in(table, k);
     let second = sheet_types::second_in(table, k);
     match kind {
-        0 => Walked::On(s),
+        0 => Some(s),
         1 => tell_ask_visits::visit_tell(work, first, b, e, s),
         2 => tell_ask_visits::visit_ask(work, table, first, second, b, e, s),
         3 => both_either_visits::visit_both(work, table, first as usize, second, b, e, s),
-        _ => Walked::On(both_either_visits::visit_either(work, first as usize, second, e, s)),
+        _ => Some(both_either_visits::visit_either(work, first as usize, second, e, s)),
     }
 }
 
 // The last node to visit: passed over where it was visited before.
-fn visit(work: &mut [u32], table: &[u8; TABLE_END], b: Basis, s: Walk) -> Walked
+fn visit(work: &mut [u32], table: &[u8; TABLE_END], b: Basis, s: Walk) -> Option<Walk>
     requires { NodesLent rank_of table.now b × Walking rank_of work.old b s × (0 < s.top) }
     ensures { Turned rank_of (nodes_in (nodes_of table.now) b.nodes) b work.old s [] work.new result }
 {
@@ -52,23 +58,19 @@ fn visit(work: &mut [u32], table: &[u8; TABLE_END], b: Basis, s: Walk) -> Walked
         top,
     };
     if !m.fresh {
-        return Walked::On(t);
+        return Some(t);
     }
     visit_kind(work, table, b, e, t)
 }
 
 // Visits until no node is left to visit.
-pub fn walk(work: &mut [u32], table: &[u8; TABLE_END], b: Basis, s: Walk) -> Walked
+pub fn walk(work: &mut [u32], table: &[u8; TABLE_END], b: Basis, s: Walk) -> Option<Walk>
     requires { NodesLent rank_of table.now b × Walking rank_of work.old b s }
     ensures { WalkedAs rank_of (nodes_in (nodes_of table.now) b.nodes) b work.old s work.new result }
 {
     let mut cur = s;
     while 0 < cur.top {
-        let r = visit(work, table, b, cur);
-        let Walked::On(next) = r else {
-            return Walked::Over;
-        };
-        cur = next;
+        cur = visit(work, table, b, cur)?;
     }
-    Walked::On(cur)
+    Some(cur)
 }

@@ -1,10 +1,11 @@
 -- An entry put in among the others: where it belongs, and the entries from there on moved three numbers up.
-use Rattle.std.specs.Prelude.{◌≡◌, refl, ◌⊎◌, Bool, true, false, List, ℕ, ◌+◌, ◌-◌, ◌*◌, ◌/◌, ◌≤◌, ◌<◌, length, get_or, set, ltb, eqb}
-use Rattle.std.proofs.Common.{sym, ap, ap₂, ◌∙◌, subst, inl, inr, arith, length-set, get_or-set_same, get_or-set_other, ltb-true, ltb-false, eqb-true}
+use Rattle.std.specs.Prelude.{Result, Ok, Err, ◌≡◌, refl, ◌⊎◌, Bool, true, false, List, ℕ, ◌+◌, ◌-◌, ◌*◌, ◌/◌, ◌≤◌, ◌<◌, length, get_or, set, ltb, eqb}
+use Rattle.std.proofs.Common.{sym, ap, ap₂, ◌∙◌, subst, inl, inr, arith, ltb-true, ltb-false, eqb-true}
 use Rattle.std.proofs.lemmas.Bool.{eqb-false}
-use Rattle.packing.specs.TestLaws.{true_false}
 use Rattle.packing.specs.Frames.{SameOutside}
 use Rattle.packing.specs.RaisedNumbers.{Raised}
+use Rattle.nodes_to_visit.specs.declared.Relation.{Relation}
+use Rattle.nodes_to_visit.specs.declared.Relation.TheVariants.{Same, Above, Neither}
 use Rattle.threads_beside.specs.NodeMoves.{NodeBeside}
 use Rattle.packing.specs.declared.Numbers.{Numbers}
 use Rattle.packing.specs.Packing.{PackedIn}
@@ -15,12 +16,11 @@ use Rattle.nodes_to_visit.specs.StoredEntry.{entry_stored}
 use Rattle.work_layout.specs.WorkLayout.{pending_at, pending_end}
 
 -- ---- where it belongs
--- numbers y beside numbers x: 1 where they are the same, 2 where the entry of y stays above that of x, else another number
-pub record SideIs (rank : ℕ → ℕ) (n : ℕ) (x y : Numbers) (r : ℕ) : Type 0 where
-  pub one : r ≡ 1 → (y.a ≡ x.a) × (y.b ≡ x.b) × (y.c ≡ x.c)
-  pub two : r ≡ 2 → (y.a ≡ x.a → ⊥) × (y.b ≡ x.b) × (y.c ≡ x.c) × (rank (x.a / 256) ≤ rank (y.a / 256)) × (rank (y.a / 256) < n)
-  pub none : (r ≡ 1 → ⊥) → (r ≡ 2 → ⊥) → y.b ≡ x.b → y.c ≡ x.c
-      → (y.a ≡ x.a → ⊥) × (rank (x.a / 256) ≤ rank (y.a / 256) → n ≤ rank (y.a / 256))
+-- numbers y beside numbers x: they are the same, or the entry of y stays above that of x, or neither
+abbrev pub SideIs : (ℕ → ℕ) → ℕ → Numbers → Numbers → Relation → Type 0
+SideIs rank n x y Same = (y.a ≡ x.a) × (y.b ≡ x.b) × (y.c ≡ x.c)
+SideIs rank n x y Above = (y.a ≡ x.a → ⊥) × (y.b ≡ x.b) × (y.c ≡ x.c) × (rank (x.a / 256) ≤ rank (y.a / 256)) × (rank (y.a / 256) < n)
+SideIs rank n x y Neither = y.b ≡ x.b → y.c ≡ x.c → (y.a ≡ x.a → ⊥) × (rank (x.a / 256) ≤ rank (y.a / 256) → n ≤ rank (y.a / 256))
 
 -- packed numbers are those of the entry that they stand for
 pub entry_numbers_lem : (y : Numbers) → PackedIn y → entry_numbers (node_for y) ≡ y
@@ -32,50 +32,22 @@ entry_numbers_lem y p =
 abbrev pub NoneOf : (ℕ → ℕ) → ℕ → Numbers → NodeBeside → Type 0
 NoneOf rank n x e = (entry_numbers e ≡ x → ⊥) × (StaysAbove rank n x e → ⊥)
 
-module _ {rank : ℕ → ℕ} {n : ℕ} {x y : Numbers} {r : ℕ} (s : SideIs rank n x y r) (p : PackedIn y) where
-  pub side_same : r ≡ 1 → node_for y ≡ node_for x
-  side_same e = let t = s.one e in placed_same x.a x.b x.c y.a y.b y.c t.0 t.1 t.2
+-- x is entry `at`; those above stay above it
+pub record SpotHeld (rank : ℕ → ℕ) (w : List ℕ) (top n : ℕ) (x : Numbers) (at : ℕ) : Type 0 where
+  pub within : at < top
+  pub hit : pending_one w at ≡ node_for x
+  pub above : AboveFrom rank w top n x (at + 1)
 
-  pub side_above : r ≡ 2 → StaysAbove rank n x (node_for y)
-  side_above e =
-      let t = s.two e in
-      record { other = λ z. t.0 (sym p.first ∙ z); same = (p.second ∙ t.1, p.third ∙ t.2); high = t.3; low = t.4 }
-
-  pub side_none : (r ≡ 1 → ⊥) → (r ≡ 2 → ⊥) → NoneOf rank n x (node_for y)
-  side_none f g = (
-    (λ e.
-        let q : y ≡ x = sym (entry_numbers_lem y p) ∙ e in
-        (s.none f g (ap (λ (z : Numbers). z.b) q) (ap (λ (z : Numbers). z.c) q)).0 (ap (λ (z : Numbers). z.a) q)),
-    (λ a.
-        let t = (s.none f g (sym p.second ∙ a.same.0) (sym p.third ∙ a.same.1)).1 a.high in
-        omega (arith, a.low)),
-  )
-
--- x is entry `at`, or is none of the entries looked at and is to be put in there; those above stay above it
-pub record SpotIs (rank : ℕ → ℕ) (w : List ℕ) (top n : ℕ) (x : Numbers) (found : Bool) (at : ℕ) : Type 0 where
+-- x is none of the entries looked at and is to be put in at this place; those above stay above it
+pub record SpotFree (rank : ℕ → ℕ) (w : List ℕ) (top n : ℕ) (x : Numbers) (at : ℕ) : Type 0 where
   pub within : at ≤ top
-  pub hit : found ≡ true → (at < top) × (pending_one w at ≡ node_for x) × AboveFrom rank w top n x (at + 1)
-  pub new : found ≡ false → AboveFrom rank w top n x at × (0 < at → NoneOf rank n x (pending_one w (at - 1)))
+  pub above : AboveFrom rank w top n x at
+  pub new : 0 < at → NoneOf rank n x (pending_one w (at - 1))
 
-pub spot_there : (rank : ℕ → ℕ) (w : List ℕ) (top n at : ℕ) (x : Numbers) → at < top → pending_one w at ≡ node_for x → AboveFrom rank w top n x (at + 1)
-    → SpotIs rank w top n x true at
-spot_there rank w top n at x h e l = record { within = omega arith; hit = λ _. (h, e, l); new = λ f. true_false true refl f }
-
-pub spot_new : (rank : ℕ → ℕ) (w : List ℕ) (top n at : ℕ) (x : Numbers) → at ≤ top → AboveFrom rank w top n x at
-    → (0 < at → NoneOf rank n x (pending_one w (at - 1))) → SpotIs rank w top n x false at
-spot_new rank w top n at x h l o = record { within = h; hit = λ f. true_false false f refl; new = λ f. (l, o) }
-
--- one entry more that stays above x
-pub above_next : (rank : ℕ → ℕ) (w : List ℕ) (top n i : ℕ) (x : Numbers) → AboveFrom rank w top n x i → 0 < i
-    → StaysAbove rank n x (pending_one w (i - 1)) → AboveFrom rank w top n x (i - 1)
-above_next rank w top n i x l p h j k m = go (ltb j i) refl
-  where
-    go : (b : Bool) → ltb j i ≡ b → StaysAbove rank n x (pending_one w j)
-    go true t =
-        let u : j < i = ltb-true j i t in
-        let q : i - 1 ≡ j = omega arith in
-        subst (λ (z : ℕ). StaysAbove rank n x (pending_one w z)) q h
-    go false t = l j (ltb-false j i t) m
+-- by the answer
+abbrev pub SpotIs : (ℕ → ℕ) → List ℕ → ℕ → ℕ → Numbers → Result ℕ ℕ → Type 0
+SpotIs rank w top n x (Ok at) = SpotHeld rank w top n x at
+SpotIs rank w top n x (Err at) = SpotFree rank w top n x at
 
 -- ---- entries with the same three numbers
 -- the three numbers of entry j of w are those of entry i of v
@@ -164,22 +136,20 @@ module _ (rank : ℕ → ℕ) (v u w : List ℕ) (top n k : ℕ) (x : NodeBeside
           at i (inr l) = pushed.outside.at i (inr (omega arith)) ∙ raised.high i (omega arith)
 
 -- ---- the two ways through the code
-module _ (rank : ℕ → ℕ) (v : List ℕ) (top n k : ℕ) (x : NodeBeside) (y : Numbers) (found : Bool) (spot : SpotIs rank v top n y found k)
-    (is : node_for y ≡ x) (q : PackedIn y) where
+module _ (rank : ℕ → ℕ) (v : List ℕ) (top n k : ℕ) (x : NodeBeside) (y : Numbers) (is : node_for y ≡ x) (q : PackedIn y) where
   numbers_are : y ≡ entry_numbers x
   numbers_are = sym (entry_numbers_lem y q) ∙ ap entry_numbers is
 
-  pub entered_there : found ≡ true → Entered rank v top n x v top
-  entered_there f =
-      let h = spot.hit f in
-      there k h.0 (h.1 ∙ is) (subst (λ (z : Numbers). AboveFrom rank v top n z (k + 1)) numbers_are h.2)
+  pub entered_there : SpotHeld rank v top n y k → Entered rank v top n x v top
+  entered_there h =
+      there k h.within (h.hit ∙ is) (subst (λ (z : Numbers). AboveFrom rank v top n z (k + 1)) numbers_are h.above)
 
-  pub entered_put : (u : List ℕ) → found ≡ false → top < 64 → pending_end ≤ length v → ((i : ℕ) → i < top → PendingPacked v i)
+  pub entered_put : (u : List ℕ) → SpotFree rank v top n y k → top < 64 → pending_end ≤ length v → ((i : ℕ) → i < top → PendingPacked v i)
       → Raised 3 v (pending_at + 3 * k) (pending_at + 3 * top) u
       → Entered rank v top n x (set (set (set u (pending_at + 3 * k) y.a) (pending_at + 3 * k + 1) y.b) (pending_at + 3 * k + 2) y.c) (top + 1)
-  entered_put u f few room packed raised =
+  entered_put u spot few room packed raised =
       let w : List ℕ = set (set (set u (pending_at + 3 * k) y.a) (pending_at + 3 * k + 1) y.b) (pending_at + 3 * k + 2) y.c in
       let pushed : Pushed u k x w =
       entry_stored u k y.a y.b y.c x (omega (arith, spot.within)) (omega (arith, raised.long)) q is in
-      let new = subst (λ (z : Numbers). AboveFrom rank v top n z k × (0 < k → NoneOf rank n z (pending_one v (k - 1)))) numbers_are (spot.new f) in
+      let new = subst (λ (z : Numbers). AboveFrom rank v top n z k × (0 < k → NoneOf rank n z (pending_one v (k - 1)))) numbers_are (spot.above, spot.new) in
       put k (entry_put rank v u w top n k x few spot.within raised pushed packed new.0 new.1)

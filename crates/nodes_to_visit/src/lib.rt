@@ -2,7 +2,6 @@
 #![tactic(auto)]
 
 ghost use Rattle.std.specs.Prelude.{◌≡◌, ℕ, ◌+◌, ◌*◌, ◌≤◌, ◌<◌, length};
-ghost use Rattle.packing.specs.RaisedNumbers.{Raised};
 ghost use Rattle.threads_beside.specs.Ranks.{rank_of};
 ghost use Rattle.packing.specs.Packing.{PackedIn};
 ghost use Rattle.threads_beside.specs.ThreadsBeside.{node_beside, node_for};
@@ -14,11 +13,11 @@ use packing::Numbers;
 use threads_beside::NodeBeside;
 use work_layout::PENDING;
 
-// An entry that is there already, or the place where it is to be put in.
-#[derive(Drop)]
-struct Spot {
-    found: bool,
-    at: usize,
+// How an entry stands beside one that is to be entered: it is the same, it stays above it, or neither.
+enum Relation {
+    Same,
+    Above,
+    Neither,
 }
 
 // Stores e as entry n.
@@ -49,67 +48,45 @@ pub fn rank_of(node: usize) -> usize
     node
 }
 
-// An entry y beside x: 1 where it is the same; 2 where its two numbers of threads are the same and its node has a rank that is not
-// below that of x and is below n; else 0.
-fn side(y: Numbers, x: Numbers, n: usize) -> u8
+// An entry y beside x. It stays above x where its two numbers of threads are the same and its node has a rank that is not below that
+// of x and is below n.
+fn side(y: Numbers, x: Numbers, n: usize) -> Relation
     ensures { SideIs rank_of n x y result }
 {
     if y.b != x.b {
-        return 0;
+        return Relation::Neither;
     }
     if y.c != x.c {
-        return 0;
+        return Relation::Neither;
     }
     if y.a == x.a {
-        return 1;
+        return Relation::Same;
     }
     let rank = rank_of((y.a / 256) as usize);
     if rank < rank_of((x.a / 256) as usize) {
-        return 0;
+        return Relation::Neither;
     }
-    if rank < n { 2 } else { 0 }
+    if rank < n {
+        Relation::Above
+    } else {
+        Relation::Neither
+    }
 }
 
-// Where x is among the first `top` entries, or is to be put in: below those of the last ones that have the same two numbers of
-// threads and a rank not below that of x and below n.
-fn spot_of(work: &[u32], top: usize, n: usize, x: Numbers) -> Spot
+// Where x is among the first `top` entries, or is to be put in: below those of the last ones that stay above it.
+fn spot_of(work: &[u32], top: usize, n: usize, x: Numbers) -> Result<usize, usize>
     requires { (top < 64) × (pending_end ≤ length work.now) × ((i : ℕ) → i < top → PendingPacked work.now i) }
-    ensures { SpotIs rank_of work.now top n x result.found result.at }
+    ensures { SpotIs rank_of work.now top n x result }
 {
-    let mut i = top;
-    while 0 < i {
-        let y = pending_at(work, i - 1);
-        let s = side(y, x, n);
-        if s == 1 {
-            return Spot {
-                found: true,
-                at: i - 1,
-            };
+    for i in (0..top).rev() {
+        let y = pending_at(work, i);
+        match side(y, x, n) {
+            Relation::Same => return Ok(i),
+            Relation::Above => {}
+            Relation::Neither => return Err(i + 1),
         }
-        if s != 2 {
-            return Spot {
-                found: false,
-                at: i,
-            };
-        }
-        i -= 1;
     }
-    Spot {
-        found: false,
-        at: 0,
-    }
-}
-
-// Moves the numbers from `from` on, below `to`, three places up.
-fn raise(work: &mut [u32], from: usize, to: usize)
-    requires { (from ≤ to) × (to + 3 ≤ length work.old) }
-    ensures { Raised 3 work.old from to work.new }
-{
-    let mut i: usize = to;
-    while from < i {
-        work[i + 2] = work[i - 1];
-        i -= 1;
-    }
+    Err(0)
 }
 
 // Enters a node with the threads of e beside it among the nodes to visit, of which there are `top`: nothing is stored where it is
@@ -126,13 +103,14 @@ pub fn enter(work: &mut [u32], top: usize, n: usize, node: u16, e: NodeBeside) -
         threads,
     };
     let x = entry.numbers();
-    let spot = spot_of(work, top, n, x);
-    if spot.found {
-        return top;
+    match spot_of(work, top, n, x) {
+        Ok(_) => top,
+        Err(spot) => {
+            let at = PENDING + 3 * spot;
+            let end = PENDING + 3 * top;
+            number_lists::shift_up::<3>(work, at, end);
+            number_lists::put_three(work, at, x.a, x.b, x.c);
+            top + 1
+        }
     }
-    let at = PENDING + 3 * spot.at;
-    let end = PENDING + 3 * top;
-    raise(work, at, end);
-    number_lists::put_three(work, at, x.a, x.b, x.c);
-    top + 1
 }

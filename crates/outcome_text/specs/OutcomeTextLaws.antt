@@ -5,7 +5,7 @@ use Rattle.std.proofs.Math.Seq.{take-append_seam}
 use Rattle.text.specs.Lines.{line, refused_word}
 use Rattle.answers.specs.Report as spec
 use Rattle.answers.specs.Report.{Verdict, SAME, DIFF, report_bytes, report_length, Compares}
-use Rattle.answers.specs.Outcome.{reported, refusal}
+use Rattle.answers.specs.Outcome.{reported, refusal, Outcome}
 use Rattle.answers.specs.Call.{answer_after, compare}
 use Rattle.answers.specs.Print.{printed}
 use Rattle.answers.specs.CallLimits.{limits}
@@ -14,8 +14,6 @@ use Rattle.text.specs.Slices.{line_room, Written}
 use Rattle.report_text.specs.ReportText as report
 use Rattle.report_text.specs.ReportText.{ReportWritten}
 use Rattle.answers.specs.declared.Reported.{Reported}
-use Rattle.answers.specs.declared.Answer.{Answer}
-use Rattle.answers.specs.declared.Answer.TheVariants.{Report, Refused}
 use Rattle.answers.specs.Returned.{is_same, returned_of, returned}
 use Rattle.outcome_text.specs.OutcomeText.{answered_text, Printable, OutcomeWritten, OutcomeStored}
 use Rattle.outcome_text.specs.TextRoom.{text_room}
@@ -39,18 +37,18 @@ same_test_of SAME = refl
 same_test_of DIFF = refl
 
 -- the text of a report
-pub report_outcome : {r : Answer} {x : Reported} → r ≡ Report x → (answer before after : List ℕ) (k : ℕ)
+pub report_outcome : {r : Outcome Reported} {x : Reported} → r ≡ reported x → (answer before after : List ℕ) (k : ℕ)
     → ReportWritten x.same x.round answer before after k → OutcomeStored r answer before after k
 report_outcome {r} {x} is answer before after k w = record {
-  slice = subst (λ (q : Answer). after ≡ answered_text q answer ++ drop (length (answered_text q answer)) before) (sym is) w.slice;
-  long = subst (λ (q : Answer). k ≡ length (answered_text q answer)) (sym is) w.count;
+  slice = subst (λ (q : Outcome Reported). after ≡ answered_text q answer ++ drop (length (answered_text q answer)) before) (sym is) w.slice;
+  long = subst (λ (q : Outcome Reported). k ≡ length (answered_text q answer)) (sym is) w.count;
   text = λ o e a. (both o (sym is ∙ e) a).1;
   count = λ o e a. (both o (sym is ∙ e) a).0;
   inside = w.inside;
   counted = w.counted;
 }
   where
-    both : (o : Compares) → Report x ≡ returned o → Printable o answer
+    both : (o : Compares) → reported x ≡ returned o → Printable o answer
         → (k ≡ length (printed o)) × (after ≡ printed o ++ drop (length (printed o)) before)
     both (reported q) e a =
         let x-is : x ≡ returned_of q = cc in
@@ -58,11 +56,11 @@ report_outcome {r} {x} is answer before after k w = record {
     both (refusal number place) e a = let z : ◌≡◌ {A = ℕ} 0 1 = cc in absurd (omega arith)
 
 -- the line of a refusal
-pub refusal_outcome : {r : Answer} {number place : ℕ} → r ≡ Refused number place → (answer before after : List ℕ) (k : ℕ)
+pub refusal_outcome : {r : Outcome Reported} {number place : ℕ} → r ≡ refusal number place → (answer before after : List ℕ) (k : ℕ)
     → line_room ≤ length before → Written (line refused_word (number ∷ place ∷ [])) before after k → OutcomeStored r answer before after k
 refusal_outcome {r} {number} {place} is answer before after k room w = record {
-  slice = subst (λ (q : Answer). after ≡ answered_text q answer ++ drop (length (answered_text q answer)) before) (sym is) written.1;
-  long = subst (λ (q : Answer). k ≡ length (answered_text q answer)) (sym is) written.0;
+  slice = subst (λ (q : Outcome Reported). after ≡ answered_text q answer ++ drop (length (answered_text q answer)) before) (sym is) written.1;
+  long = subst (λ (q : Outcome Reported). k ≡ length (answered_text q answer)) (sym is) written.0;
   text = λ o e a. (both o (sym is ∙ e)).1;
   count = λ o e a. (both o (sym is ∙ e)).0;
   inside = w.inside;
@@ -80,7 +78,7 @@ refusal_outcome {r} {number} {place} is answer before after k room w = record {
         let rest : List ℕ = drop (length text) before in
         (w.count ∙ ap (λ (b : Bool). cond b 0 (length text)) whole, w.slice ∙ ap (λ (b : Bool). cond b before (text ++ rest)) whole)
 
-    both : (o : Compares) → Refused number place ≡ returned o
+    both : (o : Compares) → refusal number place ≡ returned o
         → (k ≡ length (printed o)) × (after ≡ printed o ++ drop (length (printed o)) before)
     both (reported q) e = let z : ◌≡◌ {A = ℕ} 0 1 = cc in absurd (omega arith)
     both (refusal n p) e =
@@ -91,7 +89,7 @@ refusal_outcome {r} {number} {place} is answer before after k room w = record {
 
 -- ---- the room
 -- a slice that is too short is left as it is
-pub outcome_short : (r : Answer) (answer out : List ℕ) → length out < text_room → OutcomeWritten r answer out out 0
+pub outcome_short : (r : Outcome Reported) (answer out : List ℕ) → length out < text_room → OutcomeWritten r answer out out 0
 outcome_short r answer out h =
     let short : ltb (length out) text_room ≡ true = lt-ltb (length out) text_room h in
     record {
@@ -103,7 +101,7 @@ outcome_short r answer out h =
       counted = refl;
     }
 
-pub outcome_written : {r : Answer} {answer out after : List ℕ} {k : ℕ} → text_room ≤ length out → OutcomeStored r answer out after k
+pub outcome_written : {r : Outcome Reported} {answer out after : List ℕ} {k : ℕ} → text_room ≤ length out → OutcomeStored r answer out after k
     → OutcomeWritten r answer out after k
 outcome_written {r = r} {answer = answer} {out = out} h s =
     let room : ltb (length out) text_room ≡ false = le-ltb (length out) text_room h in

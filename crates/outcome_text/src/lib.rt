@@ -1,28 +1,30 @@
 // The text that the program prints of what the call returned.
 #![tactic(auto)]
 
+ghost use Rattle.answers.specs.OutcomeOf.{outcome_of};
 ghost use Rattle.std.specs.Prelude.{◌≤◌, length};
 ghost use Rattle.outcome_text.specs.OutcomeText.{OutcomeWritten, OutcomeStored};
 ghost use Rattle.outcome_text.specs.TextRoom.{text_room};
 
-use answers::Answer;
+use answers::Reported;
+use refusals::Refused;
 
 const TEXT_ROOM: usize = 65536;
 
 // The text of a report, from its answer bytes, or of a refusal, where there is room for it; and its length.
-fn put_outcome(r: Answer, answer: &[u8], out: &mut [u8]) -> usize
+fn put_outcome(r: Result<Reported, Refused>, answer: &[u8], out: &mut [u8]) -> usize
     requires { text_room ≤ length out.old }
-    ensures { OutcomeStored r answer.now out.old out.new result }
+    ensures { OutcomeStored (outcome_of r) answer.now out.old out.new result }
 {
     match r {
-        Answer::Report(x) => report_text::report_text(x.same, x.round, answer, out),
-        Answer::Refused(number, place) => text::refused_line(out, number, place),
+        Ok(x) => report_text::report_text(x.same, x.round, answer, out),
+        Err(refused) => text::refused_line(out, u8::from(refused.refusal), refused.place),
     }
 }
 
 // The text of what the call returned, and its length. A slice of less than 65,536 bytes is left as it is.
-pub fn outcome_text(r: Answer, answer: &[u8], out: &mut [u8]) -> usize
-    ensures { OutcomeWritten r answer.now out.old out.new result }
+pub fn outcome_text(r: Result<Reported, Refused>, answer: &[u8], out: &mut [u8]) -> usize
+    ensures { OutcomeWritten (outcome_of r) answer.now out.old out.new result }
 {
     if out.len() < TEXT_ROOM {
         return 0;

@@ -7,6 +7,9 @@ use Rattle.std.proofs.lemmas.Bool.{eqb-false}
 use Rattle.list_laws.specs.TestLaws.{true_false}
 use Rattle.moves.specs.Sheet.{Configuration}
 use Rattle.moves.specs.Orders.{leftmost, configuration_before}
+use Rattle.std.specs.Ordering.{is_lt}
+use Rattle.std.specs.declared.cmp.Ordering.{Ordering}
+use Rattle.std.specs.declared.cmp.Ordering.TheVariants.{Less, Equal, Greater}
 use Rattle.packing.specs.declared.Numbers.{Numbers}
 use Rattle.packing.specs.Packing.{bytes_after, number0, number1, number2, Fits, numbers_before, unpacked, Packed, eight_bytes, side_of, stands_for, PackedIn, before}
 use Rattle.packing.specs.Comparing.{compared}
@@ -157,20 +160,20 @@ pub numbers_side : (x y : Numbers) → PackedIn x → PackedIn y
 numbers_side x y p q = ap₂ side_of (numbers_before_lem x y p q) (numbers_before_lem y x q p)
 
 -- ---- what the side says
-pub side_before : (s t : Bool) → side_of s t ≡ 0 → s ≡ true
+pub side_before : (s t : Bool) → side_of s t ≡ Less → s ≡ true
 side_before true t h = refl
-side_before false true h = absurd (omega arith)
-side_before false false h = absurd (omega arith)
+side_before false true h = cc
+side_before false false h = cc
 
-pub side_same : (s t : Bool) → side_of s t ≡ 1 → (s ≡ false) × (t ≡ false)
-side_same true t h = absurd (omega arith)
-side_same false true h = absurd (omega arith)
+pub side_same : (s t : Bool) → side_of s t ≡ Equal → (s ≡ false) × (t ≡ false)
+side_same true t h = cc
+side_same false true h = cc
 side_same false false h = (refl, refl)
 
-pub side_after : (s t : Bool) → (side_of s t ≡ 0 → ⊥) → (side_of s t ≡ 1 → ⊥) → t ≡ true
-side_after true t h k = absurd (h refl)
-side_after false true h k = refl
-side_after false false h k = absurd (k refl)
+pub side_after : (s t : Bool) → side_of s t ≡ Greater → t ≡ true
+side_after true t h = cc
+side_after false true h = refl
+side_after false false h = cc
 
 -- ---- the numbers of a configuration that fits stand for it
 -- four bytes taken out again
@@ -232,12 +235,12 @@ packed_numbers p f =
 pub packed_count : {a b c : ℕ} → Packed a b c → a % 256 ≤ 8
 packed_count {a} {b} {c} p = omega (arith, p.first, length-take (a % 256) (eight_bytes b c))
 
--- side 0 is the test whether the first stands before the second
-side_zero : (s t : Bool) → eqb (side_of s t) 0 ≡ s
-side_zero true t = refl
-side_zero false true = refl
-side_zero false false = refl
+-- side Less is the test whether the first stands before the second
+side_less : (s t : Bool) → is_lt (side_of s t) ≡ s
+side_less true t = refl
+side_less false true = refl
+side_less false false = refl
 
-pub compared_before : (x y : Numbers) → PackedIn x → PackedIn y → (r : ℕ) → r ≡ compared x y
-    → eqb r 0 ≡ configuration_before (stands_for x) (stands_for y)
-compared_before x y p q r e = ap (λ (n : ℕ). eqb n 0) e ∙ side_zero (before x y) (before y x) ∙ numbers_before_lem x y p q
+pub compared_before : (x y : Numbers) → PackedIn x → PackedIn y → (r : Ordering) → r ≡ compared x y
+    → is_lt r ≡ configuration_before (stands_for x) (stands_for y)
+compared_before x y p q r e = ap is_lt e ∙ side_less (before x y) (before y x) ∙ numbers_before_lem x y p q

@@ -1,5 +1,7 @@
 -- A configuration as three numbers: its store with the number of its threads, its first four threads, its last four.
 use Rattle.std.specs.Prelude.{◌≡◌, Bool, true, false, cond, ℕ, zero, suc, ◌+◌, ◌*◌, ◌/◌, ◌%◌, ◌≤◌, ◌<◌, length, take, drop, eqb, ltb}
+use Rattle.std.specs.declared.cmp.Ordering.{Ordering}
+use Rattle.std.specs.declared.cmp.Ordering.TheVariants.{Less, Equal, Greater}
 use mathlib.Core.List.{List, [], ◌∷◌, Memᴰ}
 use Rattle.moves.specs.Sheet.{Configuration}
 use Rattle.packing.specs.declared.Numbers.{Numbers}
@@ -48,11 +50,11 @@ pub record Packed (a b c : ℕ) : Type 0 where
 abbrev pub numbers_before : ℕ → ℕ → ℕ → ℕ → ℕ → ℕ → Bool
 numbers_before a b c x y z = cond (eqb a x) (cond (eqb b y) (ltb c z) (ltb b y)) (ltb a x)
 
--- 0 where the first of two stands before the second, 2 where it stands after, 1 where neither
-abbrev pub side_of : Bool → Bool → ℕ
-side_of true c = 0
-side_of false true = 2
-side_of false false = 1
+-- where the first of two stands beside the second: before it, after it, or neither
+abbrev pub side_of : Bool → Bool → Ordering
+side_of true c = Less
+side_of false true = Greater
+side_of false false = Equal
 
 -- ---- the same of the struct
 -- the configuration that the struct stands for

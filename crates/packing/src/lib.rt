@@ -5,8 +5,10 @@ ghost use Rattle.std.specs.Prelude.{◌≡◌, ◌+◌, ◌*◌, ◌≤◌, ◌<
 ghost use Rattle.packing.specs.Packing.{bytes_after, eight_bytes, side_of, stands_for, PackedIn, before};
 ghost use Rattle.packing.specs.Bytes.{byte_of};
 
+use std::cmp::Ordering;
+
 // The store with the number of threads, the first four threads, the last four.
-#[derive(Clone, Copy)]
+#[derive(Clone, Copy, PartialEq, Eq, PartialOrd, Ord)]
 pub struct Numbers {
     pub a: u32,
     pub b: u32,
@@ -14,29 +16,11 @@ pub struct Numbers {
 }
 
 impl Numbers {
-    // Compared from the left: 0 where it stands before the other, 2 where it stands after, 1 where they are equal.
-    pub fn compare(self, other: Numbers) -> u8
+    // Compared from the left.
+    pub fn compare(self, other: Numbers) -> Ordering
         ensures { result ≡ side_of (before self other) (before other self) }
     {
-        if self.a < other.a {
-            return 0;
-        }
-        if other.a < self.a {
-            return 2;
-        }
-        if self.b < other.b {
-            return 0;
-        }
-        if other.b < self.b {
-            return 2;
-        }
-        if self.c < other.c {
-            return 0;
-        }
-        if other.c < self.c {
-            return 2;
-        }
-        1
+        self.cmp(&other)
     }
 }
 
@@ -45,11 +29,7 @@ fn byte_in(threads: &[u8], count: usize, i: usize) -> u32
     requires { count ≤ length threads.now }
     ensures { (result ≡ get_or (take count threads.now) i 0) × (result < 256) }
 {
-    if i < count {
-        small_numbers::wide_u32(threads[i])
-    } else {
-        0
-    }
+    if i < count { u32::from(threads[i]) } else { 0 }
 }
 
 // Four of the first count threads as one number.
@@ -87,16 +67,12 @@ pub fn numbers_of(store: u16, count: usize, threads: &[u8]) -> Numbers
 fn byte_of(word: u32, k: usize) -> u8
     ensures { result ≡ byte_of word k }
 {
-    if k == 0 {
-        return (word / 16777216) as u8;
+    match k {
+        0 => (word / 16777216) as u8,
+        1 => (word / 65536 % 256) as u8,
+        2 => (word / 256 % 256) as u8,
+        _ => (word % 256) as u8,
     }
-    if k == 1 {
-        return (word / 65536 % 256) as u8;
-    }
-    if k == 2 {
-        return (word / 256 % 256) as u8;
-    }
-    (word % 256) as u8
 }
 
 // Thread j of the eight in two numbers.

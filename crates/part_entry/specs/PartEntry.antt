@@ -4,8 +4,7 @@ use Rattle.sheet_types.specs.SortingLaws.{insert_all}
 use Rattle.threads_beside.specs.NodeMoves.{NodeBeside}
 use Rattle.nodes_to_visit.specs.NodesToVisit.{Entered}
 use Rattle.walk_state.specs.declared.Walk.{Walk}
-use Rattle.walk_state.specs.declared.Walked.{Walked}
-use Rattle.walk_state.specs.declared.Walked.TheVariants.{On, Over}
+use Rattle.std.specs.Prelude.{Option, Some, None}
 use Rattle.walk_state.specs.PushedInWalk.{topped}
 
 -- node p with these threads put among those beside e
@@ -32,6 +31,6 @@ pub record PartTooLong (mark : ℕ) (x : NodeBeside) (limit : ℕ) (v w : List �
   pub same : w ≡ v
 
 -- by the answer
-abbrev pub PartAs : (ℕ → ℕ) → ℕ → NodeBeside → ℕ → ℕ → List ℕ → Walk → List ℕ → Walked → Type 0
-PartAs rank mark x limit n v s w (On t) = PassedOver mark v s w t ⊎ PartStored rank mark x limit n v s w t
-PartAs rank mark x limit n v s w Over = PartTooLong mark x limit v w
+abbrev pub PartAs : (ℕ → ℕ) → ℕ → NodeBeside → ℕ → ℕ → List ℕ → Walk → List ℕ → Option Walk → Type 0
+PartAs rank mark x limit n v s w (Some t) = PassedOver mark v s w t ⊎ PartStored rank mark x limit n v s w t
+PartAs rank mark x limit n v s w None = PartTooLong mark x limit v w

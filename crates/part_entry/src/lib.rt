@@ -14,7 +14,7 @@ ghost use Rattle.nodes_to_visit.specs.WorkLayout.{pending_end};
 
 use sheet_types::TABLE_END;
 use threads_beside::NodeBeside;
-use walk_state::{Basis, Walk, Walked};
+use walk_state::{Basis, Walk};
 
 // Node p is to be visited, with the threads of node q beside it too, where it can move at all.
 pub fn push_beside(
@@ -25,7 +25,7 @@ pub fn push_beside(
     b: Basis,
     e: NodeBeside,
     s: Walk,
-) -> Walked
+) -> Option<Walk>
     requires { (p < max_nodes) × (q < max_nodes) × (s.top < 64) × (pending_end ≤ length work.old) × (e.count ≤ b.caps.threads) × (b.caps.threads ≤ 8)
         × (length (node_beside e).threads ≡ e.count) × (get_or (opened_of table.now).counts q 0 ≤ 8) × NotFalling (node_beside e).threads
         × ((i : ℕ) → i < s.top → PendingPacked work.old i) }
@@ -34,19 +34,15 @@ pub fn push_beside(
         b.caps.threads (rank_of e.node) work.old s work.new result }
 {
     if sheet_types::movable_in(table, p) == 0 {
-        return Walked::On(s);
+        return Some(s);
     }
     let l = b.caps;
-    let joined = threads_beside::put_beside(table, e, q, l.threads);
-    if !joined.fits {
-        return Walked::Over;
-    }
-    let at = joined.at;
+    let at = threads_beside::put_beside(table, e, q, l.threads)?;
     let rank = nodes_to_visit::rank_of(e.node as usize);
     let next = nodes_to_visit::enter(work, s.top, rank, p as u16, at);
     let running = s.running;
     let shelf = s.shelf;
-    Walked::On(Walk {
+    Some(Walk {
         running,
         shelf,
         marks: s.marks,

@@ -9,20 +9,7 @@ pub fn add_place(sets: &mut [u64], at: usize, i: usize)
     requires { at + i / 64 < length sets.old }
     ensures { sets.new ≡ with_place sets.old at i }
 {
-    let k = at + i / 64;
-    sets[k] = sets[k] | (1 << (i % 64));
-}
-
-// The set of `width` words that begins at word `at` united into another, whose words are a slice.
-fn unite_words(sets: &[u64], at: usize, width: usize, into: &mut [u64])
-    requires { (width ≤ length into.old) × (at + width ≤ length sets.now) }
-    ensures { United sets.now at width into.old into.new }
-{
-    let mut k: usize = 0;
-    while k < width {
-        into[k] = into[k] | sets[at + k];
-        k += 1;
-    }
+    sets[at + i / 64] |= 1 << (i % 64);
 }
 
 // The set of `width` words that begins at word `at` united into another.
@@ -30,7 +17,9 @@ pub fn unite(sets: &[u64], at: usize, width: usize, into: &mut [u64; 8])
     requires { (width ≤ 8) × (at + width ≤ length sets.now) }
     ensures { United sets.now at width into.old into.new }
 {
-    unite_words(sets, at, width, into);
+    for k in 0..width {
+        into[k] |= sets[at + k];
+    }
 }
 
 // The places below n of word k of the set, listed behind those of the words before it.
@@ -46,7 +35,7 @@ fn list_word(set: &[u64], k: usize, n: usize, list: &mut [u16], from: usize) -> 
             list[a] = i as u16;
             a += 1;
         }
-        rest = rest & (rest - 1);
+        rest &= rest - 1;
     }
     a
 }
@@ -57,10 +46,8 @@ pub fn list_places(set: &[u64; 8], width: usize, n: usize, list: &mut [u16; 512]
     ensures { Listed set.now n list.old list.new result }
 {
     let mut a: usize = 0;
-    let mut k: usize = 0;
-    while k < width {
+    for k in 0..width {
         a = list_word(set, k, n, list, a);
-        k += 1;
     }
     a
 }

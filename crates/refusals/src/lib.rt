@@ -1,42 +1,87 @@
-// The numbers of refusals, each named once; sheets/specs/Refusals has the same for the definitions. No functions.
+// The refusals, each named once, their numbers, and an error: what is refused and the place.
 #![tactic(auto)]
 
-// By the sheet: a field cut off by the end; too many facts; a byte that no name has; too many rules.
-pub const CUT_OFF: u8 = 1;
+ghost use Rattle.std.specs.Prelude.{◌≡◌};
+ghost use Rattle.refusals.specs.Numbers.{number};
 
-pub const MANY_FACTS: u8 = 2;
+#[derive(Clone, Copy, PartialEq, Eq, Debug)]
+pub enum Refusal {
+    // By the sheet: a field cut off by the end; too many facts; a byte that no name has; too many rules.
+    CutOff,
+    ManyFacts,
+    Unprintable,
+    ManyRules,
+    // A set with an absent fact.
+    AbsentFact,
+    // No nodes or too many; a kind that is none; a node number that is not allowed there; an unused field that is not 0.
+    WrongNodes,
+    WrongKind,
+    WrongNode,
+    UsedField,
+    // Too few starts or too many; too many threads of a start; bytes after the last start; a node that opens to too many threads.
+    WrongStarts,
+    ManyThreads,
+    BytesLeft,
+    WideNode,
+    // By the choice: a start that is not on the sheet.
+    AbsentStart,
+    // By the state: a set that passes a limit; an answer slice, and a work slice, that is too short.
+    LargeSet,
+    ShortAnswer,
+    ShortWork,
+}
 
-pub const UNPRINTABLE: u8 = 3;
+impl Refusal {
+    // This refusal at a place.
+    pub fn at(self, place: usize) -> Refused
+        ensures { result ≡ record { refusal = self; place = place } }
+    {
+        Refused {
+            refusal: self,
+            place,
+        }
+    }
+}
 
-pub const MANY_RULES: u8 = 4;
+// The number of a refusal; 6 is no longer given. sheets/specs/Refusals has the same for the definitions.
+impl From<Refusal> for u8 {
+    ghost from_gives = { λ r n. n ≡ number r };
 
-// A set with an absent fact. 6 is no longer given.
-pub const ABSENT_FACT: u8 = 5;
+    fn from(refusal: Refusal) -> u8 {
+        match refusal {
+            Refusal::CutOff => 1,
+            Refusal::ManyFacts => 2,
+            Refusal::Unprintable => 3,
+            Refusal::ManyRules => 4,
+            Refusal::AbsentFact => 5,
+            Refusal::WrongNodes => 7,
+            Refusal::WrongKind => 8,
+            Refusal::WrongNode => 9,
+            Refusal::UsedField => 10,
+            Refusal::WrongStarts => 11,
+            Refusal::ManyThreads => 12,
+            Refusal::BytesLeft => 13,
+            Refusal::AbsentStart => 14,
+            Refusal::WideNode => 15,
+            Refusal::LargeSet => 21,
+            Refusal::ShortAnswer => 22,
+            Refusal::ShortWork => 23,
+        }
+    }
+}
 
-// No nodes or too many; a kind that is none; a node number that is not allowed there; an unused field that is not 0.
-pub const WRONG_NODES: u8 = 7;
+// What is refused and the place.
+#[derive(Clone, Copy, PartialEq, Eq, Debug)]
+pub struct Refused {
+    pub refusal: Refusal,
+    pub place: usize,
+}
 
-pub const WRONG_KIND: u8 = 8;
-
-pub const WRONG_NODE: u8 = 9;
-
-pub const USED_FIELD: u8 = 10;
-
-// Too few starts or too many; too many threads of a start; bytes after the last start; a node that opens to too many threads.
-pub const WRONG_STARTS: u8 = 11;
-
-pub const MANY_THREADS: u8 = 12;
-
-pub const BYTES_LEFT: u8 = 13;
-
-pub const WIDE_NODE: u8 = 15;
-
-// By the choice: a start that is not on the sheet.
-pub const ABSENT_START: u8 = 14;
-
-// By the state: a set that passes a limit; an answer slice, and a work slice, that is too short.
-pub const LARGE_SET: u8 = 21;
-
-pub const SHORT_ANSWER: u8 = 22;
-
-pub const SHORT_WORK: u8 = 23;
+impl Refused {
+    // The number of what is refused.
+    pub fn number(self) -> u8
+        ensures { result ≡ number self.refusal }
+    {
+        u8::from(self.refusal)
+    }
+}

@@ -3,7 +3,7 @@ use Rattle.std.specs.Prelude.{◌≡◌, length, get_or}
 use Rattle.std.proofs.Math.Path.{refl, sym, ap₂}
 use Rattle.std.proofs.Common.{ap, ◌∙◌, subst, arith}
 use mathlib.Core.List.{List, [], ◌∷◌, ◌++◌, map, append_assoc}
-use Prim.Native.Nat.{ℕ, zero, suc, ◌+◌, ◌<◌}
+use Prim.Native.Nat.{ℕ, zero, suc, ◌<◌}
 use Rattle.std.proofs.lemmas.List.{length-map}
 use Rattle.comparison_laws.specs.Lists.{Ascends, concat_map}
 use Rattle.work_layout.specs.Tabulate.{tabulate, tabulate_length, tabulate_at}

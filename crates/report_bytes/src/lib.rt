@@ -14,10 +14,8 @@ pub fn put_members(work: &[u32], n: usize, out: &mut [u8]) -> usize
     ensures { Stored out.old 0 (members_part work.now n) out.new result }
 {
     let mut at = put_word(out, 0, n as u32);
-    let mut i: usize = 0;
-    while i < n {
+    for i in 0..n {
         at = put_member(work, i, out, at);
-        i += 1;
     }
     at
 }
@@ -28,10 +26,8 @@ fn put_trail(work: &[u32], k: usize, out: &mut [u8])
     ensures { out.new ≡ trail_part work.now k ++ drop (length (trail_part work.now k)) out.old }
 {
     let mut at = put_word(out, 0, k as u32);
-    let mut i: usize = 0;
-    while i < k {
+    for i in 0..k {
         at = put_step(work, i, out, at);
-        i += 1;
     }
 }
 
@@ -41,10 +37,8 @@ pub fn members_length(work: &[u32], n: usize) -> usize
     ensures { result ≡ length (members_part work.now n) }
 {
     let mut total: usize = 2;
-    let mut place: usize = 0;
-    while place < n {
+    for place in 0..n {
         total += 5 + (work[work_layout::MEMBERS + 3 * place] % 256) as usize;
-        place += 1;
     }
     total
 }

@@ -19,11 +19,7 @@ const NO_REPLY: usize = 65535;
 pub fn byte_in(s: &[u8], at: usize) -> usize
     ensures { (result ≡ get_or s.now at 0) × (result < 256) }
 {
-    if at < s.len() {
-        small_numbers::wide(s[at])
-    } else {
-        0
-    }
+    s.get(at).map_or(0, |b| usize::from(*b))
 }
 
 // Two bytes, the low one first.
@@ -39,7 +35,7 @@ pub fn count_in(s: &[u8], at: usize) -> usize
     requires { at < 65536 }
     ensures { (result ≡ count_in s.now at) × (result ≤ 512) }
 {
-    small_numbers::lesser(word_in(s, at), MAX_MEMBERS)
+    word_in(s, at).min(MAX_MEMBERS)
 }
 
 // The count of threads in the member that begins at a place.
@@ -47,7 +43,7 @@ pub fn thread_count(s: &[u8], from: usize) -> usize
     requires { from < 65536 }
     ensures { (result ≡ thread_count s.now from) × (result ≤ 8) }
 {
-    small_numbers::lesser(byte_in(s, from + 2), MAX_THREADS)
+    byte_in(s, from + 2).min(MAX_THREADS)
 }
 
 // Stores a byte.
@@ -82,10 +78,8 @@ fn put_more_threads(s: &[u8], from: usize, n: usize, out: &mut [u8], at: usize) 
     ensures { Stored out.old at (more_threads (threads_in s.now from n)) out.new result × (result ≤ at + 4 * n) }
 {
     let mut next = at;
-    let mut i: usize = 0;
-    while i < n {
+    for i in 0..n {
         next = put_next_thread(s, from + i, out, next);
-        i += 1;
     }
     next
 }

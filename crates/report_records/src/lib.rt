@@ -25,12 +25,10 @@ fn put_threads(out: &mut [u8], at: usize, b: u32, c: u32, count: usize) -> usize
     requires { (count ≤ 8) × (at + count ≤ length out.old) }
     ensures { Stored out.old at (take count (eight_bytes b c)) out.new result }
 {
-    let mut i: usize = 0;
-    while i < count {
+    for i in 0..count {
         out[at + i] = packing::thread_in(b, c, i);
-        i += 1;
     }
-    at + i
+    at + count
 }
 
 // Stores the member at place i: store, thread count, threads, class.

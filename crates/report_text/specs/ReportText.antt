@@ -1,6 +1,5 @@
 -- What writing the text of a report from its bytes does.
-use Rattle.std.specs.Prelude.{◌≡◌, Bool, true, false, List, [], ◌∷◌, ◌++◌, ℕ, ◌+◌, ◌*◌, ◌≤◌, length, take, drop}
-use Rattle.text.specs.Lines.{line}
+use Rattle.std.specs.Prelude.{◌≡◌, Bool, true, false, List, ◌++◌, ℕ, ◌+◌, ◌*◌, ◌≤◌, length, take, drop}
 use Rattle.report_fields.specs.Report.{Verdict, SAME, DIFF, Report, report_bytes, report_length}
 use Rattle.report_fields.specs.Outcome.{reported}
 use Rattle.report_fields.specs.Print.{printed}
@@ -8,11 +7,6 @@ use Rattle.answer_laws.specs.Fitting.{Fitting}
 use Rattle.text.specs.Slices.{Stored}
 use Rattle.report_text.specs.AnswerText.{members_text, members_end, answer_text}
 use Rattle.report_text.specs.declared.Reached.{Reached}
-
--- a line of a word and a number was stored from a place on
-pub record LineStored (before : List ℕ) (at : ℕ) (head : List ℕ) (n : ℕ) (after : List ℕ) (r : ℕ) : Type 0 where
-  pub text : Stored before at (line head (n ∷ [])) after r
-  pub short : r ≤ at + length head + 22
 
 -- the lines of n members were stored from a place on
 pub record MembersWritten (s : List ℕ) (n : ℕ) (before : List ℕ) (at : ℕ) (after : List ℕ) (r : Reached) : Type 0 where

@@ -6,7 +6,7 @@ ghost use Rattle.std.specs.Prelude.{[], ◌∷◌, ◌+◌, ◌*◌, ◌≤◌, 
 ghost use Rattle.text.specs.Lines.{line};
 ghost use Rattle.text.specs.Slices.{Stored};
 ghost use Rattle.report_text.specs.AnswerText.{member_text, step_text, steps_text, word_of};
-ghost use Rattle.report_text.specs.ReportText.{LineStored, MembersWritten, ReportWritten};
+ghost use Rattle.report_text.specs.ReportText.{MembersWritten, ReportWritten};
 
 use report_fields::{
     byte_in, count_in, put_byte, put_reply, put_threads, put_word, side_letter, thread_count,
@@ -39,18 +39,13 @@ fn member_lines(s: &[u8], n: usize, out: &mut [u8], at: usize) -> Reached
     requires { (n ≤ 512) × (at + 64 * n + 128 ≤ length out.old) }
     ensures { MembersWritten s.now n out.old at out.new result }
 {
-    let mut from: usize = 2;
+    let mut from = 2;
     let mut next = at;
-    let mut i: usize = 0;
-    while i < n {
+    for i in 0..n {
         next = member_line(s, from, i, out, next);
-        from = from + 5 + thread_count(s, from);
-        i += 1;
+        from += 5 + thread_count(s, from);
     }
-    Reached {
-        from: from,
-        at: next,
-    }
+    Reached { from, at: next }
 }
 
 // Stores the line of the step that begins at a place.
@@ -71,25 +66,11 @@ fn step_lines(s: &[u8], start: usize, n: usize, out: &mut [u8], at: usize) -> us
     requires { (start < 32768) × (n ≤ 512) × (at + 32 * n + 64 ≤ length out.old) }
     ensures { Stored out.old at (steps_text s.now start n) out.new result × (result ≤ at + 32 * n) }
 {
-    let mut from = start;
     let mut next = at;
-    let mut i: usize = 0;
-    while i < n {
-        next = step_line(s, from, out, next);
-        from = from + 7;
-        i += 1;
+    for i in 0..n {
+        next = step_line(s, start + 7 * i, out, next);
     }
     next
-}
-
-// Stores a line of a word and a number.
-fn put_line(out: &mut [u8], at: usize, head: &[u8], n: usize) -> usize
-    requires { at + length head.now + 22 ≤ length out.old }
-    ensures { LineStored out.old at head.now n out.new result }
-{
-    let a = text::put_text(out, at, head);
-    let b = text::put_field(out, a, n as u64);
-    text::put_end(out, b)
 }
 
 // Stores the first line: verdict and round.
@@ -98,9 +79,9 @@ fn verdict_line(same: bool, round: usize, out: &mut [u8]) -> usize
     ensures { Stored out.old 0 (line (word_of same) (round ∷ [])) out.new result × (result ≤ 26) }
 {
     if same {
-        put_line(out, 0, b"SAME", round)
+        text::put_line(out, 0, b"SAME", &[round as u64])
     } else {
-        put_line(out, 0, b"DIFF", round)
+        text::put_line(out, 0, b"DIFF", &[round as u64])
     }
 }
 
@@ -111,10 +92,10 @@ pub fn report_text(same: bool, round: usize, answer: &[u8], out: &mut [u8]) -> u
 {
     let a = verdict_line(same, round, out);
     let n = count_in(answer, 0);
-    let b = put_line(out, a, b"CONFIGURATIONS", n);
+    let b = text::put_line(out, a, b"CONFIGURATIONS", &[n as u64]);
     let members = member_lines(answer, n, out, b);
     let from = members.from;
     let k = count_in(answer, from);
-    let c = put_line(out, members.at, b"TRAIL", k);
+    let c = text::put_line(out, members.at, b"TRAIL", &[k as u64]);
     step_lines(answer, from + 2, k, out, c)
 }

@@ -11,8 +11,7 @@ use Rattle.number_lists.specs.Frames.{outside_set}
 use Rattle.number_lists.specs.ListPlaces.{get_d_in}
 use Rattle.number_lists.specs.NumberLists.{numbers_in}
 use Rattle.number_lists.specs.NumberLaws.{numbers_none, numbers_none_ascend, numbers_outside}
-use Rattle.number_lists.specs.declared.Put.{Put}
-use Rattle.number_lists.specs.declared.Put.TheVariants.{Until, Full}
+use Rattle.std.specs.Prelude.{Option, Some, None, unwrap_or}
 use Rattle.number_lists.specs.Entered.{Entered, NoRoom, PutIs}
 use Rattle.number_lists.specs.EnteredLaws.{entered_ascends}
 use Rattle.dominators.specs.Sheet.{Configuration, Sheet}
@@ -235,16 +234,24 @@ module _ (w : List ℕ) (n first total j end : ℕ) (fit : SpanFits w n first to
   -- the same by the answer of the list: it is never full, as there are no more lines than moves before
   pub moved_put : b ≡ true → Ascends number_order.before (numbers_in w (lines_at + first) end) → (line : ℕ)
       → line ≡ packed_line (get_or u (moves_at + first + j) 0 / 65536) (class_in u (get_or u (moves_at + first + j) 0 % 65536))
-      → (v : List ℕ) (a : Put) → PutIs u (lines_at + first) end (lines_at + first + total) line v a → (r : ℕ) → a ≡ Until r
+      → (v : List ℕ) (a : Option ℕ) → PutIs u (lines_at + first) end (lines_at + first + total) line v a → (r : ℕ) → a ≡ Some r
       → LineMoved w n first total j end v r
   moved_put f s line e v a E r is =
       moved_one f s line e v r (subst (PutIs u (lines_at + first) end (lines_at + first + total) line v) is E)
 
-  pub moved_full : (line : ℕ) (v : List ℕ) (a : Put) → PutIs u (lines_at + first) end (lines_at + first + total) line v a → a ≡ Full → ⊥
+  pub moved_full : (line : ℕ) (v : List ℕ) (a : Option ℕ) → PutIs u (lines_at + first) end (lines_at + first + total) line v a → a ≡ None → ⊥
   moved_full line v a E is =
       let x : NoRoom u (lines_at + first) end (lines_at + first + total) line v =
       subst (PutIs u (lines_at + first) end (lines_at + first + total) line v) is E in
       omega (arith, x.full, ends)
+
+  -- so the end is what the list gives, whatever stands for none
+  pub moved_entered : b ≡ true → Ascends number_order.before (numbers_in w (lines_at + first) end) → (line : ℕ)
+      → line ≡ packed_line (get_or u (moves_at + first + j) 0 / 65536) (class_in u (get_or u (moves_at + first + j) 0 % 65536))
+      → (v : List ℕ) (a : Option ℕ) → PutIs u (lines_at + first) end (lines_at + first + total) line v a → (r : ℕ) → r ≡ unwrap_or a end
+      → LineMoved w n first total j end v r
+  moved_entered f s line e v (Some x) E r is = moved_put f s line e v (Some x) E r (ap Some (sym is))
+  moved_entered f s line e v None E r is = absurd (moved_full line v None E refl)
 
 -- ---- all moves of a member
 -- the moves before place j are done

@@ -1,6 +1,6 @@
 -- A member whose lines are those of the round before: each of its moves is either irredundant for good, with a target whose
 -- class was not born since, or still dominated by the move that is kept for it.
-use Rattle.std.specs.Prelude.{◌≡◌, ◌⊎◌, true, false, not, ℕ, ◌+◌, ◌*◌, ◌/◌, ◌%◌, ◌<◌, get_or}
+use Rattle.std.specs.Prelude.{◌≡◌, ◌⊎◌, true, false, ℕ, ◌+◌, ◌*◌, ◌/◌, ◌%◌, ◌<◌, get_or}
 use Rattle.std.proofs.Common.{sym, ap, ◌∙◌, subst, inl, inr, arith, eq-eqb}
 use mathlib.Core.List.{List, Memᴰ}
 use Rattle.work_layout.specs.TestLaws.{true_false, and_left, and_right, and_intro}

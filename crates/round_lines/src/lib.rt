@@ -14,7 +14,6 @@ ghost use Rattle.round_lines.specs.SetLinesFound.{SetLined};
 ghost use Rattle.work_layout.specs.WorkLayout.{work_end, lines_at, member_room, move_room};
 ghost use Rattle.work_layout.specs.ClassLayout.{class_in};
 
-use number_lists::Put;
 use work_layout::{DOMINATORS, LINE_TOTALS, LINES, MOVES};
 
 // The line of a move: its label and the class of its target.
@@ -35,11 +34,7 @@ fn line_move(work: &mut [u32], n: usize, first: usize, total: usize, j: usize, e
         return end;
     }
     let line = line_of(work, work[MOVES + first + j]);
-    let r = number_lists::enter_number(work, LINES + first, end, LINES + first + total, line);
-    let Put::Until(next) = r else {
-        return end;
-    };
-    next
+    number_lists::enter_number(work, LINES + first, end, LINES + first + total, line).unwrap_or(end)
 }
 
 // The lines of the member at place i.
@@ -51,10 +46,8 @@ fn line_member(work: &mut [u32], n: usize, i: usize)
     let total = work_layout::move_total(work, i);
     let begin = LINES + first;
     let mut end = begin;
-    let mut j: usize = 0;
-    while j < total {
+    for j in 0..total {
         end = line_move(work, n, first, total, j, end);
-        j += 1;
     }
     work[LINE_TOTALS + i] = (end - begin) as u32;
 }
@@ -88,10 +81,8 @@ fn watch_member(work: &[u32], sets: &mut [u64], width: usize, n: usize, i: usize
 {
     let first = work_layout::first_move(work, i);
     let total = work_layout::move_total(work, i);
-    let mut j: usize = 0;
-    while j < total {
+    for j in 0..total {
         watch_move(work, sets, width, n, first, j, i);
-        j += 1;
     }
 }
 
@@ -108,11 +99,9 @@ pub fn line_listed(
         × (n * width ≤ length sets.old) }
     ensures { SetLined work.old sets.old width n list.now k work.new sets.new }
 {
-    let mut j: usize = 0;
-    while j < k {
+    for j in 0..k {
         let i = list[j] as usize;
         line_member(work, n, i);
         watch_member(work, sets, width, n, i);
-        j += 1;
     }
 }

@@ -1,6 +1,6 @@
 -- Members of classes chosen, while the first k places are looked at: the last of those at rest in each class.
 use Rattle.std.specs.Prelude.{◌≡◌, List, ℕ, ◌+◌, ◌≤◌, ◌<◌, length, set, eqb}
-use Rattle.std.proofs.Common.{subst, arith, eqb-true}
+use Rattle.std.proofs.Common.{arith, eqb-true}
 use Rattle.std.proofs.lemmas.Bool.{eqb-false}
 use Rattle.work_layout.specs.TestLaws.{Tested, tested, passes, fails}
 use Rattle.place_sets.specs.PlaceSets.{InSet}

@@ -1,8 +1,8 @@
 -- Round 0: a class for each store. The members stand in ascending order of their stores, so equal stores stand side by side.
-use Rattle.std.specs.Prelude.{◌≡◌, refl, Bool, true, false, not, List, ℕ, suc, ◌+◌, ◌-◌, ◌*◌, ◌/◌, ◌≤◌, ◌<◌, length, get_or, set, eqb}
-use Rattle.std.proofs.Common.{sym, ap, ◌∙◌, subst, inl, arith, add-one, length-set, get_or-set_same, get_or-set_other, eqb-true, eq-eqb}
-use Rattle.std.proofs.lemmas.Bool.{eqb-false, not-true}
-use Rattle.work_layout.specs.TestLaws.{true_false, not_passes, Tested, tested, passes, fails}
+use Rattle.std.specs.Prelude.{◌≡◌, Bool, true, false, List, ℕ, suc, ◌+◌, ◌-◌, ◌*◌, ◌/◌, ◌≤◌, ◌<◌, length, get_or, set, eqb}
+use Rattle.std.proofs.Common.{sym, ap, ◌∙◌, subst, inl, arith, add-one, length-set, get_or-set_same, get_or-set_other, eqb-true}
+use Rattle.std.proofs.lemmas.Bool.{eqb-false}
+use Rattle.work_layout.specs.TestLaws.{Tested, tested, passes, fails}
 use Rattle.work_layout.specs.Frames.{SameOutside, outside_same, outside_set, outside_again}
 use Rattle.work_layout.specs.SetLayout.{member_at}
 use Rattle.class_splits.specs.ClassedPlaces.{chosen_in, Classed, classed_new, classed_append}
@@ -21,19 +21,6 @@ AnotherStore w i = 0 < i → store_in w (i - 1) ≡ store_in w i → ⊥
 pub record StoreTold (w : List ℕ) (i : ℕ) (r : Bool) : Type 0 where
   pub another : r ≡ true → AnotherStore w i
   pub same : r ≡ false → (0 < i) × (store_in w (i - 1) ≡ store_in w i)
-
-pub told_first : (w : List ℕ) (i : ℕ) → i ≡ 0 → StoreTold w i true
-told_first w i e = record { another = λ h l. absurd (omega arith); same = λ h. true_false true refl h }
-
-pub told_later : (w : List ℕ) (i a b : ℕ) → 0 < i → a ≡ store_in w (i - 1) → b ≡ store_in w i → StoreTold w i (not (eqb a b))
-told_later w i a b h ea eb = record {
-  another = λ t l e. true_false (eqb a b) (eq-eqb a b (ea ∙ e ∙ sym eb)) (not-true (eqb a b) t);
-  same = λ t. (h, sym ea ∙ eqb-true a b (go (tested (eqb a b)) t) ∙ eb);
-}
-  where
-    go : Tested (eqb a b) → not (eqb a b) ≡ false → eqb a b ≡ true
-    go (passes x) t = x
-    go (fails x) t = true_false (not (eqb a b)) (not_passes x) t
 
 -- what the member at place i gets: a class of its own, born in round 0, or the class of the one before it
 pub data FoundOne (w : List ℕ) (i count : ℕ) (v : List ℕ) (r : ℕ) : Type 0 where

@@ -21,10 +21,7 @@ fn new_store(work: &[u32], i: usize) -> bool
     requires { (i < member_room) × (work_end ≤ length work.now) }
     ensures { StoreTold work.now i result }
 {
-    if i == 0 {
-        return true;
-    }
-    work_layout::store_at(work, i - 1) != work_layout::store_at(work, i)
+    i == 0 || work_layout::store_at(work, i - 1) != work_layout::store_at(work, i)
 }
 
 // The class of the member at place i in round 0, where `count` classes were found before it.
@@ -47,10 +44,8 @@ pub fn found_classes(work: &mut [u32], n: usize) -> usize
     ensures { Founding work.old n work.new result }
 {
     let mut count: usize = 0;
-    let mut i: usize = 0;
-    while i < n {
+    for i in 0..n {
         count = found_class(work, i, count);
-        i += 1;
     }
     count
 }
@@ -61,14 +56,12 @@ fn chosen_listed(work: &[u32], list: &[u16; 512], k: usize) -> bool
     ensures { result ≡ false → (j : ℕ) → j < k → chosen_in work.now (class_in work.now (get_or list.now j 0))
         ≡ get_or list.now j 0 → ⊥ }
 {
-    let mut j: usize = 0;
-    while j < k {
+    for j in 0..k {
         let i = list[j] as usize;
         let c = work_layout::class_at(work, i);
         if work[CHOSEN + c as usize] == i as u32 {
             return true;
         }
-        j += 1;
     }
     false
 }
@@ -78,13 +71,11 @@ pub fn choose_rest(work: &mut [u32], n: usize, awake: &[u64; 8])
     requires { (n ≤ member_room) × (work_end ≤ length work.old) × ((i : ℕ) → i < n → class_in work.old i < member_room) }
     ensures { Rechosen work.old n awake.now n work.new }
 {
-    let mut i: usize = 0;
-    while i < n {
+    for i in 0..n {
         if !place_sets::has_place(awake, i) {
             let c = work_layout::class_at(work, i);
             work[CHOSEN + c as usize] = i as u32;
         }
-        i += 1;
     }
 }
 
@@ -102,11 +93,8 @@ pub fn split_listed(
     ensures { Splitting work.old n round old work.new result (InList list.now k) }
 {
     let mut count = old;
-    let mut j: usize = 0;
-    while j < k {
-        let i = list[j] as usize;
-        count = class_splits::split_member(work, round, i, old, count);
-        j += 1;
+    for j in 0..k {
+        count = class_splits::split_member(work, round, list[j] as usize, old, count);
     }
     count
 }
@@ -116,10 +104,8 @@ pub fn list_all(list: &mut [u16], n: usize)
     requires { (n ≤ member_room) × (n ≤ length list.old) }
     ensures { (j : ℕ) → j < n → get_or list.new j 0 ≡ j }
 {
-    let mut i: usize = 0;
-    while i < n {
+    for i in 0..n {
         list[i] = i as u16;
-        i += 1;
     }
 }
 
@@ -137,13 +123,11 @@ fn wake(
         × ((j : ℕ) → j < k → (get_or list.now j 0 < member_room) × (get_or list.now j 0 * width + width ≤ length sets.now)) }
     ensures { Woken work.now sets.now width old list.now k awake.new }
 {
-    let mut j: usize = 0;
-    while j < k {
+    for j in 0..k {
         let i = list[j] as usize;
         if old <= work_layout::class_at(work, i) as usize {
             place_sets::unite(sets, i * width, width, awake);
         }
-        j += 1;
     }
 }
 

@@ -4,13 +4,14 @@
 
 ghost use Rattle.std.specs.Prelude.{length};
 ghost use Rattle.after_rounds.specs.AfterRounds.{compare_rounds_with, compare_rounds, compare_rounds_desk};
+ghost use Rattle.after_rounds.specs.OutcomeOf.{outcome_of};
 ghost use Rattle.call_frame.specs.Seeds.{CapsFit};
 ghost use Rattle.call_frame.specs.FoundSet.{limits_of};
 ghost use Rattle.rounds_call.specs.ComparedRounds.{ComparedRounds};
 
-use after_rounds::RoundsAnswer;
-use call_frame::Begun;
+use after_rounds::Reached;
 use collected_moves::Caps;
+use refusals::Refused;
 
 // The call with caps that are given.
 fn compare_rounds_within(
@@ -21,24 +22,24 @@ fn compare_rounds_within(
     answer: &mut [u8],
     work: &mut [u32],
     caps: Caps,
-) -> RoundsAnswer
+) -> Result<Reached, Refused>
     requires { CapsFit caps }
     ensures { ComparedRounds (compare_rounds_with (limits_of caps) sheet.now left right rounds
         (length work.old) (length answer.old))
-        work.old answer.old work.new answer.new result }
+        work.old answer.old work.new answer.new (outcome_of result) }
 {
-    let started = call_frame::begin_pair(sheet, left, right, work, caps);
-    let begun = started.begun;
-    match begun {
-        Begun::Refused(number, place) => RoundsAnswer::Refused(number, place),
-        Begun::Set(n, m) => {
-            let p = started.left;
-            let q = started.right;
-            let r = set_rounds::round_set(work, answer, n, m, p, q, rounds);
-            work_layout::clear_work(work);
-            r
-        }
-    }
+    let set = call_frame::begin_pair(sheet, left, right, work, caps)?;
+    let answered = set_rounds::round_set(
+        work,
+        answer,
+        set.size.members,
+        set.size.moves,
+        set.left,
+        set.right,
+        rounds,
+    );
+    work_layout::clear_work(work);
+    answered
 }
 
 // The call within document 01's limits.
@@ -49,10 +50,10 @@ pub fn compare_rounds(
     rounds: u64,
     answer: &mut [u8],
     work: &mut [u32],
-) -> RoundsAnswer
+) -> Result<Reached, Refused>
     ensures { ComparedRounds (compare_rounds sheet.now left right rounds
         (length work.old) (length answer.old))
-        work.old answer.old work.new answer.new result }
+        work.old answer.old work.new answer.new (outcome_of result) }
 {
     compare_rounds_within(
         sheet,
@@ -73,10 +74,10 @@ pub fn compare_rounds_desk(
     rounds: u64,
     answer: &mut [u8],
     work: &mut [u32],
-) -> RoundsAnswer
+) -> Result<Reached, Refused>
     ensures { ComparedRounds (compare_rounds_desk sheet.now left right rounds
         (length work.old) (length answer.old))
-        work.old answer.old work.new answer.new result }
+        work.old answer.old work.new answer.new (outcome_of result) }
 {
     compare_rounds_within(
         sheet,

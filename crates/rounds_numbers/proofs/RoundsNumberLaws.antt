@@ -7,7 +7,7 @@ use Rattle.answer_numbers.specs.SheetRead.{choice_reads}
 use Rattle.answer_numbers.specs.RefusalNumbers.{number_low}
 use Rattle.answer_numbers.specs.CallLimits.{Limits, NoGreater}
 use Rattle.answer_numbers.specs.Classes.{class_total}
-use Rattle.answer_numbers.specs.Outcome.{reported, refusal}
+use Rattle.answer_numbers.specs.Outcome.{reported, refusal, Outcome}
 use Rattle.answer_numbers.specs.Promise.{starts_of}
 use Rattle.rounds_theorem.specs.LimitLaws.{beside, outcomes_beside, one_choice}
 use Rattle.answer_numbers.specs.AnswerNumbers.{outcome_number}
@@ -18,19 +18,17 @@ use Rattle.after_rounds.specs.AfterRounds.{SAME, DIFF, OPEN, Afters, after_lengt
 use Rattle.after_rounds.specs.AfterRoundsRead.{verdict_returned, afters_returned}
 use Rattle.after_rounds.specs.AfterRoundsPromise.{after_for, RefusesAfter}
 use Rattle.after_rounds.specs.declared.Reached.{Reached}
-use Rattle.after_rounds.specs.declared.RoundsAnswer.{RoundsAnswer}
-use Rattle.after_rounds.specs.declared.RoundsAnswer.TheVariants.{After, Refused}
 use Rattle.rounds_theorem.specs.ComparedRounds.{ComparedRounds}
 use Rattle.rounds_theorem.specs.AfterTheorem.{after_decides, after_refuses, after_gives}
 use Rattle.rounds_theorem.specs.TwoLimits.{after_same}
-use Rattle.rounds_numbers.specs.RoundsNumbers.{verdict_number, verdict_code, afters_numbers, HandedRounds, rounds_number, rounds_numbers}
+use Rattle.rounds_numbers.specs.RoundsNumbers.{verdict_number, verdict_code, afters_numbers, HandedRounds, rounds_numbers}
 
 verdict_is : (v : spec.Verdict) → verdict_code (verdict_returned v) ≡ verdict_number v
 verdict_is SAME = refl
 verdict_is DIFF = refl
 verdict_is OPEN = refl
 
-number_is : (o : Afters) → rounds_number (afters_returned o) ≡ outcome_number o
+number_is : (o : Afters) → outcome_number (afters_returned o) ≡ outcome_number o
 number_is (reported a) = refl
 number_is (refusal number place) = refl
 
@@ -40,18 +38,18 @@ numbers_are (reported a) =
 numbers_are (refusal number place) = refl
 
 -- the numbers of either answer
-pub after_numbers : {r : RoundsAnswer} {x : Reached} {k : ℕ} → r ≡ After x → k ≡ verdict_code x.verdict
+pub after_numbers : {r : Outcome Reached} {x : Reached} {k : ℕ} → r ≡ reported x → k ≡ verdict_code x.verdict
     → ◌≡◌ {A = List ℕ} (k ∷ x.classes ∷ x.members ∷ x.length ∷ 0 ∷ []) (rounds_numbers r)
 after_numbers {x = x} e h = ap (λ (j : ℕ). j ∷ x.classes ∷ x.members ∷ x.length ∷ 0 ∷ []) h ∙ ap rounds_numbers (sym e)
 
-pub refused_numbers : {r : RoundsAnswer} {number place : ℕ} → r ≡ Refused number place
+pub refused_numbers : {r : Outcome Reached} {number place : ℕ} → r ≡ refusal number place
     → ◌≡◌ {A = List ℕ} (0 ∷ 0 ∷ 0 ∷ 0 ∷ place ∷ []) (rounds_numbers r)
 refused_numbers e = ap rounds_numbers (sym e)
 
 -- what the call left, with the numbers of its answer
-pub rounds_handed : {o : Afters} {v before w after : List ℕ} {r : RoundsAnswer} {number : ℕ} {numbers : List ℕ} → ComparedRounds o v before w after r
-    → number ≡ rounds_number r → numbers ≡ rounds_numbers r → HandedRounds o v before w after numbers number
-rounds_handed {o} c n ns = answered_handed rounds_number rounds_numbers c n ns (number_is o) (numbers_are o)
+pub rounds_handed : {o : Afters} {v before w after : List ℕ} {r : Outcome Reached} {number : ℕ} {numbers : List ℕ} → ComparedRounds o v before w after r
+    → number ≡ outcome_number r → numbers ≡ rounds_numbers r → HandedRounds o v before w after numbers number
+rounds_handed {o} c n ns = answered_handed outcome_number rounds_numbers c n ns (number_is o) (numbers_are o)
 
 -- no refusal has the number 0
 pub rounds_above : (l : Limits) (bytes : List ℕ) (left right k work answer : ℕ) {number place : ℕ}

@@ -2,14 +2,13 @@
 -- has them: verdict, classes, members, length, place.
 use Rattle.std.specs.Prelude.{◌≡◌, refl, List, [], ◌∷◌, ℕ, length}
 use Rattle.answer_numbers.specs.Classes.{class_total}
-use Rattle.answer_numbers.specs.Outcome.{reported, refusal}
+use Rattle.answer_numbers.specs.Outcome.{reported, refusal, Outcome}
 use Rattle.answer_numbers.specs.AnswerNumbers.{outcome_number, HandedBy}
 use Rattle.after_rounds.specs.AfterRounds as spec
 use Rattle.after_rounds.specs.AfterRounds.{SAME, DIFF, OPEN, Afters, after_bytes, after_length}
 use Rattle.after_rounds.specs.declared.Verdict.{Verdict}
 use Rattle.after_rounds.specs.declared.Verdict.TheVariants.{Same, Diff, Open}
-use Rattle.after_rounds.specs.declared.RoundsAnswer.{RoundsAnswer}
-use Rattle.after_rounds.specs.declared.RoundsAnswer.TheVariants.{After, Refused}
+use Rattle.after_rounds.specs.declared.Reached.{Reached}
 
 abbrev pub verdict_number : spec.Verdict → ℕ
 verdict_number SAME = 0
@@ -31,13 +30,9 @@ verdict_code Same = 0
 verdict_code Diff = 1
 verdict_code Open = 2
 
-abbrev pub rounds_number : RoundsAnswer → ℕ
-rounds_number (After x) = 0
-rounds_number (Refused number place) = number
-
-abbrev pub rounds_numbers : RoundsAnswer → List ℕ
-rounds_numbers (After x) = verdict_code x.verdict ∷ x.classes ∷ x.members ∷ x.length ∷ 0 ∷ []
-rounds_numbers (Refused number place) = 0 ∷ 0 ∷ 0 ∷ 0 ∷ place ∷ []
+abbrev pub rounds_numbers : Outcome Reached → List ℕ
+rounds_numbers (reported x) = verdict_code x.verdict ∷ x.classes ∷ x.members ∷ x.length ∷ 0 ∷ []
+rounds_numbers (refusal number place) = 0 ∷ 0 ∷ 0 ∷ 0 ∷ place ∷ []
 
 -- ---- rows: the number that is returned and the five after it, of an answer on three members in two classes, and of a refusal
 abbrev handed : Afters → List ℕ

@@ -1,16 +1,17 @@
 -- The promise fixes the call for so many rounds: of the same input, what two calls that keep it return and leave in both slices is the
 -- same.
+use Rattle.answers.specs.Outcome.{Outcome}
 use Rattle.std.specs.Prelude.{◌≡◌, List, ℕ, length}
 use Rattle.answers.specs.CallLimits.{Limits}
 use Rattle.promise_laws.specs.PromiseAlone.{promise_alone}
 use Rattle.after_rounds.specs.AfterRoundsPromise.{RoundsPromise}
-use Rattle.after_rounds.specs.declared.RoundsAnswer.{RoundsAnswer}
+use Rattle.after_rounds.specs.declared.Reached.{Reached}
 use Rattle.rounds_theorem.specs.AfterTheorem.{after_decides}
 use Rattle.rounds_theorem.specs.TwoLimits.{answer_fixes}
 
 -- nothing that is returned or left is free
-pub after_alone : (l : Limits) (bytes : List ℕ) (left right k : ℕ) (v before : List ℕ) {w after : List ℕ} {answer : RoundsAnswer} {w2 after2 : List ℕ}
-    {answer2 : RoundsAnswer} → RoundsPromise l bytes left right k v before w after answer → RoundsPromise l bytes left right k v before w2 after2 answer2
+pub after_alone : (l : Limits) (bytes : List ℕ) (left right k : ℕ) (v before : List ℕ) {w after : List ℕ} {answer : Outcome Reached} {w2 after2 : List ℕ}
+    {answer2 : Outcome Reached} → RoundsPromise l bytes left right k v before w after answer → RoundsPromise l bytes left right k v before w2 after2 answer2
     → (answer ≡ answer2) × (after ≡ after2) × (w ≡ w2)
 after_alone l bytes left right k v before a b =
     promise_alone (after_decides l bytes left right k (length v) (length before)) (λ x. answer_fixes l l bytes left right k) a b

@@ -9,7 +9,7 @@ use Rattle.answers.specs.SheetRead.{choice_reads}
 use Rattle.call_theorem.specs.ReadingLaws.{written_admissible}
 use Rattle.call_theorem.specs.RefusalNumbers.{number_low}
 use Rattle.answers.specs.CallLimits.{Limits, NoGreater, limits, desk_limits}
-use Rattle.answers.specs.Outcome.{cleared}
+use Rattle.answers.specs.Outcome.{cleared, Outcome, refusal, reported}
 use Rattle.answers.specs.Promise.{PassesLimit, starts_of}
 use Rattle.call_theorem.specs.RoomLaws.{never_short_answer}
 use Rattle.call_theorem.specs.LimitLaws.{own_limits, desk_no_greater}
@@ -19,13 +19,11 @@ use Rattle.after_rounds.specs.AfterRounds.{AfterRounds, after_bytes, after_lengt
 use Rattle.after_rounds.specs.AfterRoundsRead.{reached_of, afters_returned, after_read}
 use Rattle.after_rounds.specs.AfterRoundsPromise.{FaithfulAfter, after_for, RefusesAfter, GivesAfter, ReachedPromise, RoundsPromise}
 use Rattle.after_rounds.specs.declared.Reached.{Reached}
-use Rattle.after_rounds.specs.declared.RoundsAnswer.{RoundsAnswer}
-use Rattle.after_rounds.specs.declared.RoundsAnswer.TheVariants.{After, Refused}
 use Rattle.rounds_call.specs.ComparedRounds.{ComparedRounds}
 use Rattle.rounds_theorem.specs.AfterTheorem.{after_refuses, after_gives, after_faithful, after_room_lem, after_back}
 
 -- an answer is no refusal, and each of both has its own arguments
-variants : Variants Refused After
+variants : Variants {X = Reached} refusal reported
 variants =
     record {
       never = λ x number place e. let z : ◌≡◌ {A = ℕ} 0 1 = cc in omega arith;
@@ -39,7 +37,7 @@ module _ (l : Limits) (bytes : List ℕ) (left right k : ℕ) where
       → after_length (after_for l sheet left right k) ≤ after_room l
   within_room sheet c none = after_room_lem l sheet (written_admissible bytes sheet c.written) left right c.left_there c.right_there none k
 
-  module _ (small : NoGreater l limits) (v before w after : List ℕ) (answer : RoundsAnswer) where
+  module _ (small : NoGreater l limits) (v before w after : List ℕ) (answer : Outcome Reached) where
     -- what goes with an answer that was returned and written
     reached_made : (a : AfterRounds) → GivesAfter l bytes left right k (length v) (length before) a → (x : Reached) → x ≡ reached_of a
         → after ≡ after_bytes a ++ drop (after_length a) before → w ≡ cleared v → ReachedPromise l bytes left right k v before w after x
@@ -77,22 +75,22 @@ module _ (l : Limits) (bytes : List ℕ) (left right k : ℕ) where
         (after_gives l bytes left right k (length v) (length before)) reached_made
 
 -- within document 01's limits
-pub rounds_document_promise : (bytes : List ℕ) (left right k : ℕ) (v before w after : List ℕ) (answer : RoundsAnswer)
+pub rounds_document_promise : (bytes : List ℕ) (left right k : ℕ) (v before w after : List ℕ) (answer : Outcome Reached)
     → ComparedRounds (compare_rounds bytes left right k (length v) (length before)) v before w after answer
     → RoundsPromise limits bytes left right k v before w after answer
 rounds_document_promise bytes left right k = rounds_promise limits bytes left right k (own_limits limits)
 
 -- and within the desk's
-pub rounds_desk_promise : (bytes : List ℕ) (left right k : ℕ) (v before w after : List ℕ) (answer : RoundsAnswer)
+pub rounds_desk_promise : (bytes : List ℕ) (left right k : ℕ) (v before w after : List ℕ) (answer : Outcome Reached)
     → ComparedRounds (compare_rounds_desk bytes left right k (length v) (length before)) v before w after answer
     → RoundsPromise desk_limits bytes left right k v before w after answer
 rounds_desk_promise bytes left right k = rounds_promise desk_limits bytes left right k desk_no_greater
 
 -- ---- the room that the limits name
-module _ {l : Limits} {bytes : List ℕ} {left right k : ℕ} {v before w after : List ℕ} {answer : RoundsAnswer}
+module _ {l : Limits} {bytes : List ℕ} {left right k : ℕ} {v before w after : List ℕ} {answer : Outcome Reached}
     (a : RoundsPromise l bytes left right k v before w after answer) where
   -- no answer is longer
-  pub after_within : (x : Reached) → answer ≡ After x → x.length ≤ after_room l
+  pub after_within : (x : Reached) → answer ≡ reported x → x.length ≤ after_room l
   after_within x e =
       let m = a.made x e in
       let g = m.gives in
@@ -100,7 +98,7 @@ module _ {l : Limits} {bytes : List ℕ} {left right k : ℕ} {v before w after 
       (within_room l bytes left right k g.sheet g.read g.no_limit)
 
   -- and with that room 22 is not given
-  pub after_room_enough : {place : ℕ} → after_room l ≤ length before → answer ≡ Refused short_answer place → ⊥
+  pub after_room_enough : {place : ℕ} → after_room l ≤ length before → answer ≡ refusal short_answer place → ⊥
   after_room_enough {place} room e =
       never_short_answer
       (λ n x. omega (arith, (number_low bytes left right short_answer n ((choice_reads bytes left right).is_refused short_answer n x)).within))

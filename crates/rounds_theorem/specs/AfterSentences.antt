@@ -1,5 +1,6 @@
 -- Document 02, card 13, sentence by sentence: what follows for a caller who has two answers on the same starts, and for one who has the
 -- comparing call's report beside an answer. Proved of any calls that keep their promises, each within limits and with slices of its own.
+use Rattle.answers.specs.Outcome.{reported}
 use Rattle.std.specs.Prelude.{◌≡◌, Bool, true, false, ℕ, ◌≤◌, length}
 use Rattle.std.proofs.Math.Path.{refl, subst}
 use Rattle.std.proofs.Common.{sym, ap, ◌∙◌, arith}
@@ -25,7 +26,6 @@ use Rattle.call_theorem.specs.FaithfulAlone.{members_one, as_many, finer_places,
 use Rattle.call_theorem.specs.LimitLaws.{own_limits, desk_no_greater}
 use Rattle.answers.specs.ReadBack.{read_back_lem}
 use Rattle.answers.specs.declared.Reported.{Reported}
-use Rattle.answers.specs.declared.Answer.TheVariants.{Report}
 use Rattle.call_theorem.specs.Compared.{Compared}
 use Rattle.after_rounds.specs.CallPromise as call
 use Rattle.after_rounds.specs.CallPromise.{report_read, CallPromise}
@@ -38,7 +38,6 @@ use Rattle.after_rounds.specs.AfterRoundsPromise.{NonePart, FaithfulAfter, Reach
 use Rattle.after_rounds.specs.declared.Verdict.{Verdict}
 use Rattle.after_rounds.specs.declared.Verdict.TheVariants.{Same, Diff}
 use Rattle.after_rounds.specs.declared.Reached.{Reached}
-use Rattle.after_rounds.specs.declared.RoundsAnswer.TheVariants.{After}
 use Rattle.rounds_theorem.specs.ToldLaws.{told_later, apart_told, untold_together, none_part}
 use Rattle.rounds_call.specs.ComparedRounds.{ComparedRounds}
 use Rattle.rounds_theorem.specs.AfterPromiseLaws.{rounds_promise}
@@ -51,8 +50,8 @@ returned_verdict m e = ap (λ (y : Reached). y.verdict) m.returned ∙ ap verdic
 -- ---- two answers on the same starts
 module _ {l h : Limits} {bytes : List ℕ} {left right k n : ℕ} {v before w after : List ℕ} {x : Reached} {v2 before2 w2 after2 : List ℕ} {y : Reached} where
   -- SAME and DIFF stay as they are after more rounds
-  pub unaltered : k ≤ n → RoundsPromise l bytes left right k v before w after (After x)
-      → RoundsPromise h bytes left right n v2 before2 w2 after2 (After y) → Unaltered x y
+  pub unaltered : k ≤ n → RoundsPromise l bytes left right k v before w after (reported x)
+      → RoundsPromise h bytes left right n v2 before2 w2 after2 (reported y) → Unaltered x y
   unaltered le a b =
       let o = b.made y refl in
       let f = (a.made x refl).faithful in
@@ -139,7 +138,7 @@ as_reported false same diff = diff refl
 -- ---- both calls on one sheet
 module _ {l h : Limits} {bytes : List ℕ} {left right k : ℕ} {v before w after : List ℕ} {x : Reached} {v2 before2 w2 after2 : List ℕ} {y : Reported} where
   -- An answer beside a report on the same starts, where neither call is refused.
-  pub beside_report : RoundsPromise l bytes left right k v before w after (After x) → CallPromise h bytes left right v2 before2 w2 after2 (Report y)
+  pub beside_report : RoundsPromise l bytes left right k v before w after (reported x) → CallPromise h bytes left right v2 before2 w2 after2 (reported y)
       → (sheet : Sheet) → ChoiceIs bytes left right sheet → BesideReport sheet left right k x after y after2
   unfolding read_back_lem
   beside_report a b sheet c =
@@ -172,43 +171,43 @@ module _ {l h : Limits} {bytes : List ℕ} {left right k : ℕ} {v before w afte
 
 -- ---- the calls themselves, from their contracts, within any limits that are not above document 01's
 module _ (l h : Limits) (small : NoGreater l limits) (below : NoGreater h limits) (bytes : List ℕ) (left right k : ℕ) {v before w after : List ℕ} {x : Reached}
-    {v2 before2 w2 after2 : List ℕ} (a : ComparedRounds (compare_rounds_with l bytes left right k (length v) (length before)) v before w after (After x)) where
+    {v2 before2 w2 after2 : List ℕ} (a : ComparedRounds (compare_rounds_with l bytes left right k (length v) (length before)) v before w after (reported x)) where
   -- more rounds leave SAME and DIFF as they are
   pub calls_unaltered : {y : Reached} (n : ℕ) → k ≤ n
-      → ComparedRounds (compare_rounds_with h bytes left right n (length v2) (length before2)) v2 before2 w2 after2 (After y) → Unaltered x y
+      → ComparedRounds (compare_rounds_with h bytes left right n (length v2) (length before2)) v2 before2 w2 after2 (reported y) → Unaltered x y
   calls_unaltered {y} n le b =
-      unaltered le (rounds_promise l bytes left right k small v before w after (After x) a)
-      (rounds_promise h bytes left right n below v2 before2 w2 after2 (After y) b)
+      unaltered le (rounds_promise l bytes left right k small v before w after (reported x) a)
+      (rounds_promise h bytes left right n below v2 before2 w2 after2 (reported y) b)
 
   -- the answer beside the comparing call's report
-  pub calls_beside_report : {y : Reported} → Compared (compare_with h bytes left right (length v2) (length before2)) v2 before2 w2 after2 (Report y)
+  pub calls_beside_report : {y : Reported} → Compared (compare_with h bytes left right (length v2) (length before2)) v2 before2 w2 after2 (reported y)
       → (sheet : Sheet) → ChoiceIs bytes left right sheet → BesideReport sheet left right k x after y after2
   calls_beside_report {y} b =
-      beside_report (rounds_promise l bytes left right k small v before w after (After x) a)
-      (call_promise h below bytes left right v2 before2 w2 after2 (Report y) b)
+      beside_report (rounds_promise l bytes left right k small v before w after (reported x) a)
+      (call_promise h below bytes left right v2 before2 w2 after2 (reported y) b)
 
 -- ---- within document 01's limits
 module _ (bytes : List ℕ) (left right k : ℕ) {v before w after : List ℕ} {x : Reached} {v2 before2 w2 after2 : List ℕ}
-    (a : ComparedRounds (compare_rounds bytes left right k (length v) (length before)) v before w after (After x)) where
+    (a : ComparedRounds (compare_rounds bytes left right k (length v) (length before)) v before w after (reported x)) where
   -- more rounds leave SAME and DIFF as they are
   pub document_unaltered : {y : Reached} (n : ℕ) → k ≤ n
-      → ComparedRounds (compare_rounds bytes left right n (length v2) (length before2)) v2 before2 w2 after2 (After y) → Unaltered x y
+      → ComparedRounds (compare_rounds bytes left right n (length v2) (length before2)) v2 before2 w2 after2 (reported y) → Unaltered x y
   document_unaltered = calls_unaltered limits limits (own_limits limits) (own_limits limits) bytes left right k a
 
   -- the answer beside the comparing call's report
-  pub document_beside_report : {y : Reported} → Compared (compare bytes left right (length v2) (length before2)) v2 before2 w2 after2 (Report y)
+  pub document_beside_report : {y : Reported} → Compared (compare bytes left right (length v2) (length before2)) v2 before2 w2 after2 (reported y)
       → (sheet : Sheet) → ChoiceIs bytes left right sheet → BesideReport sheet left right k x after y after2
   document_beside_report = calls_beside_report limits limits (own_limits limits) (own_limits limits) bytes left right k a
 
 -- ---- within the desk's
 module _ (bytes : List ℕ) (left right k : ℕ) {v before w after : List ℕ} {x : Reached} {v2 before2 w2 after2 : List ℕ}
-    (a : ComparedRounds (compare_rounds_desk bytes left right k (length v) (length before)) v before w after (After x)) where
+    (a : ComparedRounds (compare_rounds_desk bytes left right k (length v) (length before)) v before w after (reported x)) where
   -- more rounds leave SAME and DIFF as they are
   pub desk_unaltered : {y : Reached} (n : ℕ) → k ≤ n
-      → ComparedRounds (compare_rounds_desk bytes left right n (length v2) (length before2)) v2 before2 w2 after2 (After y) → Unaltered x y
+      → ComparedRounds (compare_rounds_desk bytes left right n (length v2) (length before2)) v2 before2 w2 after2 (reported y) → Unaltered x y
   desk_unaltered = calls_unaltered desk_limits desk_limits desk_no_greater desk_no_greater bytes left right k a
 
   -- the answer beside the comparing call's report
-  pub desk_beside_report : {y : Reported} → Compared (compare_desk bytes left right (length v2) (length before2)) v2 before2 w2 after2 (Report y)
+  pub desk_beside_report : {y : Reported} → Compared (compare_desk bytes left right (length v2) (length before2)) v2 before2 w2 after2 (reported y)
       → (sheet : Sheet) → ChoiceIs bytes left right sheet → BesideReport sheet left right k x after y after2
   desk_beside_report = calls_beside_report desk_limits desk_limits desk_no_greater desk_no_greater bytes left right k a

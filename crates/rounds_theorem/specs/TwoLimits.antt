@@ -1,4 +1,5 @@
 -- The call for so many rounds within two limits, after the same number of rounds.
+use Rattle.answers.specs.Outcome.{Outcome, reported}
 use Rattle.std.specs.Prelude.{◌≡◌, refl, List, ◌++◌, ℕ, length, take, drop}
 use Rattle.std.proofs.Common.{sym, ap, ◌∙◌}
 use Rattle.std.proofs.Math.Seq.{take-append_seam}
@@ -12,8 +13,6 @@ use Rattle.after_rounds.specs.AfterRounds.{AfterRounds, after_on, after_bytes, a
 use Rattle.after_rounds.specs.AfterRoundsRead.{reached_of, after_read}
 use Rattle.after_rounds.specs.AfterRoundsPromise.{after_for, GivesAfter, ReachedPromise, RoundsPromise, OneAnswer, LowerRounds}
 use Rattle.after_rounds.specs.declared.Reached.{Reached}
-use Rattle.after_rounds.specs.declared.RoundsAnswer.{RoundsAnswer}
-use Rattle.after_rounds.specs.declared.RoundsAnswer.TheVariants.{After}
 use Rattle.rounds_call.specs.ComparedRounds.{ComparedRounds}
 use Rattle.rounds_theorem.specs.AfterTheorem.{after_decides}
 use Rattle.rounds_theorem.specs.AfterPromiseLaws.{rounds_document_promise, rounds_desk_promise}
@@ -42,7 +41,7 @@ module _ (l h : Limits) (bytes : List ℕ) (left right k : ℕ) where
 
   -- where both answer, they return and write the same
   pub one_answer : {v before w after : List ℕ} {x : Reached} {v2 before2 w2 after2 : List ℕ} {y : Reached}
-      → RoundsPromise l bytes left right k v before w after (After x) → RoundsPromise h bytes left right k v2 before2 w2 after2 (After y)
+      → RoundsPromise l bytes left right k v before w after (reported x) → RoundsPromise h bytes left right k v2 before2 w2 after2 (reported y)
       → OneAnswer x after y after2
   one_answer {after = after} {x} {after2 = after2} {y} a b =
       let m = a.made x refl in
@@ -63,7 +62,7 @@ module _ (l h : Limits) (bytes : List ℕ) (left right k : ℕ) where
   )
 
   -- card 3, for any two limits of which the first are nowhere above the second
-  pub lower_rounds : (v before : List ℕ) {w after : List ℕ} {answer : RoundsAnswer} {w2 after2 : List ℕ} {answer2 : RoundsAnswer}
+  pub lower_rounds : (v before : List ℕ) {w after : List ℕ} {answer : Outcome Reached} {w2 after2 : List ℕ} {answer2 : Outcome Reached}
       → RoundsPromise l bytes left right k v before w after answer → RoundsPromise h bytes left right k v before w2 after2 answer2 → NoGreater l h
       → LowerRounds l bytes left right w after answer w2 after2 answer2
   lower_rounds v before a b le =
@@ -74,14 +73,14 @@ module _ (l h : Limits) (bytes : List ℕ) (left right k : ℕ) where
 module _ (bytes : List ℕ) (left right k : ℕ) where
   -- both answer, each in slices of its own
   pub desk_one_answer : {v before w after : List ℕ} {x : Reached} {v2 before2 w2 after2 : List ℕ} {y : Reached}
-      → ComparedRounds (compare_rounds_desk bytes left right k (length v) (length before)) v before w after (After x)
-      → ComparedRounds (compare_rounds bytes left right k (length v2) (length before2)) v2 before2 w2 after2 (After y) → OneAnswer x after y after2
+      → ComparedRounds (compare_rounds_desk bytes left right k (length v) (length before)) v before w after (reported x)
+      → ComparedRounds (compare_rounds bytes left right k (length v2) (length before2)) v2 before2 w2 after2 (reported y) → OneAnswer x after y after2
   desk_one_answer {v} {before} {w} {after} {x} {v2} {before2} {w2} {after2} {y} a b =
-      one_answer desk_limits limits bytes left right k (rounds_desk_promise bytes left right k v before w after (After x) a)
-      (rounds_document_promise bytes left right k v2 before2 w2 after2 (After y) b)
+      one_answer desk_limits limits bytes left right k (rounds_desk_promise bytes left right k v before w after (reported x) a)
+      (rounds_document_promise bytes left right k v2 before2 w2 after2 (reported y) b)
 
   -- the same slices
-  pub desk_lower_rounds : {v before w after : List ℕ} {answer : RoundsAnswer} {w2 after2 : List ℕ} {answer2 : RoundsAnswer}
+  pub desk_lower_rounds : {v before w after : List ℕ} {answer : Outcome Reached} {w2 after2 : List ℕ} {answer2 : Outcome Reached}
       → ComparedRounds (compare_rounds_desk bytes left right k (length v) (length before)) v before w after answer
       → ComparedRounds (compare_rounds bytes left right k (length v) (length before)) v before w2 after2 answer2
       → LowerRounds desk_limits bytes left right w after answer w2 after2 answer2

@@ -1,10 +1,12 @@
 -- Seeds entered one after another.
-use Rattle.std.specs.Prelude.{◌≡◌, refl, ◌⊎◌, Bool, true, false, ℕ, zero, suc, ◌+◌, ◌≤◌, ◌<◌, length, get_or, set, ltb}
-use Rattle.std.proofs.Common.{sym, ap, ◌∙◌, subst, inr, ⊎_elim, arith, get_or-set_same, get_or-set_other, ltb-true, ltb-false}
+use Rattle.std.specs.Prelude.{◌≡◌, refl, Bool, true, false, ℕ, zero, suc, ◌+◌, ◌-◌, ◌≤◌, ◌<◌, length, get_or, take, ltb, replicate}
+use Rattle.std.proofs.Common.{sym, ap, ◌∙◌, subst, inr, ⊎_elim, arith, length-append, length-take, length-take-le, length-drop, ltb-true, ltb-false}
+use Rattle.std.proofs.lemmas.List.{length-replicate, get_or-replicate, get_or_append_left, get_or-append_right}
+use borrow.Rule.Slice.PartMut.{put_mid, mid_of, post_of, mid_len, take_put, drop_put}
 use mathlib.Core.List.Memᴰ
 use mathlib.Core.List.{List, [], ◌∷◌, ◌++◌, Memᴰ}
 use Rattle.move_entry.specs.Lists.{no_elements}
-use Rattle.work_layout.specs.Frames.{SameOutside, outside_same, outside_again, outside_set}
+use Rattle.work_layout.specs.Frames.{SameOutside, outside_same, outside_again, outside_of_ends}
 use Rattle.collected_moves.specs.Tabulate.{tabulate_none, tabulate_next}
 use Rattle.collected_moves.specs.TabulateLaws.{tabulate_mem, mem_tabulate}
 use Rattle.sheet_types.specs.Sheet.{Configuration}
@@ -16,8 +18,7 @@ use Rattle.collected_moves.specs.MemberTable.{member_in}
 use Rattle.move_entry.specs.TableInPart.{part_none}
 use Rattle.collected_moves.specs.declared.Caps.{Caps}
 use Rattle.collected_moves.specs.declared.Running.{Running}
-use Rattle.collected_moves.specs.declared.Noted.{Noted}
-use Rattle.collected_moves.specs.declared.Noted.TheVariants as noted
+use Rattle.std.specs.Prelude.{Option, Some, None}
 use Rattle.collected_moves.specs.CollectedMoves.{NoRoomFor, EnteredAs, member_part, members_of, moves_of}
 use Rattle.collected_moves.specs.CollectedLaws.{collecting_empty, moves_of_none}
 use Rattle.set_growth.specs.SetGrowth.{Growth, Sound, InSet, InHand, Gathered}
@@ -26,32 +27,28 @@ use Rattle.seed_members.specs.Seeds.{CapsFit, Cleared, SeedOn, SeedOver, SeedEnt
 use Rattle.work_layout.specs.WorkLayout.{work_end, table_length, spans_at, moves_at, members_at}
 
 -- ---- spans
--- the spans before place i are cleared
-pub record ClearedTo (v : List ℕ) (i : ℕ) (w : List ℕ) : Type 0 where
-  pub none : (j : ℕ) → spans_at ≤ j → j < i → get_or w j 0 ≡ 0
-  pub outside : SameOutside spans_at moves_at v w
-
-pub cleared_none : (v : List ℕ) → ClearedTo v spans_at v
-cleared_none v = record { none = λ j h k. absurd (omega arith); outside = outside_same spans_at moves_at v }
-
-pub cleared_next : (v w : List ℕ) (i : ℕ) → ClearedTo v i w → spans_at ≤ i → i < moves_at → work_end ≤ length v → ClearedTo v (i + 1) (set w i 0)
-cleared_next v w i a h k l =
+-- their part filled with 0
+pub spans_filled : (v ys : List ℕ) → work_end ≤ length v → ys ≡ replicate (length (mid_of spans_at (moves_at - spans_at) v)) 0
+    → Cleared v (put_mid spans_at (moves_at - spans_at) v ys)
+spans_filled v ys h f =
+    let k : ℕ = moves_at - spans_at in
+    let post : List ℕ = post_of spans_at k v in
+    let e : ys ≡ replicate k 0 = f ∙ ap (λ (n : ℕ). replicate n 0) (mid_len spans_at moves_at v (omega arith)) in
+    let l : length ys ≡ k = ap length e ∙ length-replicate {A = ℕ} k 0 in
+    let a : length (take spans_at v) ≡ spans_at = length-take-le spans_at v (omega arith) in
     record {
-      none = λ j p q. go j p q (ltb j i) refl;
-      outside = outside_again a.outside (outside_set spans_at moves_at w i 0 h k);
+      none = λ id j.
+          let back : spans_at + id - spans_at ≡ id = omega arith in
+          get_or-append_right (take spans_at v) (ys ++ post) spans_at (spans_at + id) 0 a (omega arith)
+          ∙ ap (λ (i : ℕ). get_or (ys ++ post) i 0) back
+          ∙ get_or_append_left ys post 0 id (omega arith)
+          ∙ ap (λ (z : List ℕ). get_or z id 0) e
+          ∙ get_or-replicate k id 0 0 (omega arith);
+      outside =
+          outside_of_ends spans_at moves_at v (put_mid spans_at k v ys)
+          (simp (length-append, length-take, length-drop) (omega arith))
+          (take_put spans_at k v ys (omega arith)) (drop_put spans_at moves_at v ys (omega arith) (omega arith) l);
     }
-  where
-    go : (j : ℕ) → spans_at ≤ j → j < i + 1 → (b : Bool) → ltb j i ≡ b → get_or (set w i 0) j 0 ≡ 0
-    go j p q true r =
-        let m : j < i = ltb-true j i r in
-        get_or-set_other w i j 0 0 (omega arith) ∙ a.none j p m
-    go j p q false r =
-        let m : i ≤ j = ltb-false j i r in
-        let e : j ≡ i = omega arith in
-        ap (λ (n : ℕ). get_or (set w i 0) n 0) e ∙ get_or-set_same w i 0 0 (omega (arith, a.outside.long))
-
-pub cleared_all : (v w : List ℕ) → ClearedTo v moves_at w → Cleared v w
-cleared_all v w a = record { none = λ id h. a.none (spans_at + id) (omega arith) (omega arith); outside = a.outside }
 
 -- ---- the seeds in their array
 -- what stands past the end makes no difference before it
@@ -177,25 +174,18 @@ module _ {v : List ℕ} {caps : Caps} {ps : List Configuration} {w : List ℕ} {
 
 -- ---- one seed
 -- entered, where it has no more threads than allowed
-pub seed_entered : (v : List ℕ) (s : Running) (caps : Caps) (w : List ℕ) (r : Noted) {p q : Configuration} → q ≡ p
+pub seed_entered : (v : List ℕ) (s : Running) (caps : Caps) (w : List ℕ) (r : Option Running) {p q : Configuration} → q ≡ p
     → length p.threads ≤ caps.threads → EnteredAs v 0 s caps q w r → SeedEntered v s caps p w r
 seed_entered v s caps w r {p} e h k = go r (subst (λ (x : Configuration). EnteredAs v 0 s caps x w r) e k)
   where
-    go : (r : Noted) → EnteredAs v 0 s caps p w r → SeedEntered v s caps p w r
-    go (noted.On t) a = record { entered = a; few = h }
-    go noted.Over a = record { large = inr a }
+    go : (r : Option Running) → EnteredAs v 0 s caps p w r → SeedEntered v s caps p w r
+    go (Some t) a = record { entered = a; few = h }
+    go None a = record { large = inr a }
 
--- ---- the answers taken apart
-module _ (v : List ℕ) (s : Running) (caps : Caps) (p : Configuration) (w : List ℕ) (r : Noted) where
-  pub seed_on : {t : Running} → r ≡ noted.On t → SeedEntered v s caps p w r → SeedOn v s caps p w t
-  seed_on e h = subst (SeedEntered v s caps p w) e h
-
-  pub seed_over : r ≡ noted.Over → SeedEntered v s caps p w r → SeedOver v s caps p w
-  seed_over e h = subst (SeedEntered v s caps p w) e h
-
-module _ (v : List ℕ) (caps : Caps) (ps : List Configuration) (w : List ℕ) (r : Noted) where
-  pub seeds_on : {t : Running} → r ≡ noted.On t → Seeded v caps ps w r → SeededOn v caps ps w t
+-- ---- the answer taken apart
+module _ (v : List ℕ) (caps : Caps) (ps : List Configuration) (w : List ℕ) (r : Option Running) where
+  pub seeds_on : {t : Running} → r ≡ Some t → Seeded v caps ps w r → SeededOn v caps ps w t
   seeds_on e h = subst (Seeded v caps ps w) e h
 
-  pub seeds_over : r ≡ noted.Over → Seeded v caps ps w r → SeededOver v caps ps w
+  pub seeds_over : r ≡ None → Seeded v caps ps w r → SeededOver v caps ps w
   seeds_over e h = subst (Seeded v caps ps w) e h

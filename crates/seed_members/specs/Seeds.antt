@@ -6,8 +6,7 @@ use Rattle.sheet_types.specs.Sheet as spec
 use Rattle.work_layout.specs.Promise.{PassesLimit}
 use Rattle.collected_moves.specs.declared.Caps.{Caps}
 use Rattle.collected_moves.specs.declared.Running.{Running}
-use Rattle.collected_moves.specs.declared.Noted.{Noted}
-use Rattle.collected_moves.specs.declared.Noted.TheVariants as noted
+use Rattle.std.specs.Prelude.{Option, Some, None}
 use Rattle.collected_moves.specs.CollectedMoves.{Collecting, EnteredOn, NoRoomFor, members_of}
 use Rattle.set_growth.specs.SetGrowth.{Growth, Sound}
 use Rattle.work_layout.specs.WorkLayout.{table_length, spans_at, moves_at, members_at, member_room, move_room}
@@ -32,9 +31,9 @@ pub record SeedOver (v : List ℕ) (s : Running) (caps : Caps) (p : spec.Configu
   pub large : ((caps.threads < length p.threads) × (w ≡ v)) ⊎ NoRoomFor v s caps p w
 
 -- by the answer
-abbrev pub SeedEntered : List ℕ → Running → Caps → spec.Configuration → List ℕ → Noted → Type 0
-SeedEntered v s caps p w (noted.On t) = SeedOn v s caps p w t
-SeedEntered v s caps p w noted.Over = SeedOver v s caps p w
+abbrev pub SeedEntered : List ℕ → Running → Caps → spec.Configuration → List ℕ → Option Running → Type 0
+SeedEntered v s caps p w (Some t) = SeedOn v s caps p w t
+SeedEntered v s caps p w None = SeedOver v s caps p w
 
 -- these seeds are the members, and there are no moves
 pub record SeededOn (v : List ℕ) (caps : Caps) (ps : List spec.Configuration) (w : List ℕ) (t : Running) : Type 0 where
@@ -53,6 +52,6 @@ pub record SeededOver (v : List ℕ) (caps : Caps) (ps : List spec.Configuration
   pub inside : SameOutside members_at (members_at + table_length) v w
 
 -- by the answer
-abbrev pub Seeded : List ℕ → Caps → List spec.Configuration → List ℕ → Noted → Type 0
-Seeded v caps ps w (noted.On t) = SeededOn v caps ps w t
-Seeded v caps ps w noted.Over = SeededOver v caps ps w
+abbrev pub Seeded : List ℕ → Caps → List spec.Configuration → List ℕ → Option Running → Type 0
+Seeded v caps ps w (Some t) = SeededOn v caps ps w t
+Seeded v caps ps w None = SeededOver v caps ps w

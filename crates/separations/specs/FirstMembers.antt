@@ -1,6 +1,6 @@
 -- The first member of each class chosen: the places from k on were looked at.
 use Rattle.std.specs.Prelude.{◌≡◌, List, ℕ, ◌+◌, ◌≤◌, ◌<◌, length, set}
-use Rattle.std.proofs.Common.{ap, ◌∙◌, arith}
+use Rattle.std.proofs.Common.{ap, arith}
 use Rattle.class_rounds.specs.ClassedPlaces.{chosen_in, Classed}
 use Rattle.class_rounds.specs.ChosenPlaces.{PlacesChosen, chosen_none, chosen_next, chosen_class, chosen_classed}
 use Rattle.separations.specs.NumberedPlaces.{FirstChosen}

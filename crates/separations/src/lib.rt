@@ -21,8 +21,8 @@ fn apart(work: &[u32], last: usize, first: u32, second: u32) -> usize
     let mut b = second;
     let mut r = last;
     while a != b {
-        let high = small_numbers::greater_u32(a, b);
-        let low = small_numbers::lesser_u32(a, b);
+        let high = a.max(b);
+        let low = a.min(b);
         let birth = work[BIRTHS + high as usize];
         let born = (birth % 65536) as usize;
         if born == 0 {
@@ -69,9 +69,7 @@ fn choose_first(work: &mut [u32], n: usize)
     requires { (n ≤ member_room) × (work_end ≤ length work.old) × ((i : ℕ) → i < n → class_in work.old i < member_room) }
     ensures { FirstsFound work.old n 0 work.new }
 {
-    let mut i = n;
-    while 0 < i {
-        i -= 1;
+    for i in (0..n).rev() {
         let c = work_layout::class_at(work, i);
         work[CHOSEN + c as usize] = i as u32;
     }
@@ -84,9 +82,7 @@ pub fn number_classes(work: &mut [u32], n: usize)
 {
     choose_first(work, n);
     let mut count: usize = 0;
-    let mut i: usize = 0;
-    while i < n {
+    for i in 0..n {
         count = number_class(work, i, count);
-        i += 1;
     }
 }

@@ -23,10 +23,8 @@ fn pass_once(rules: &[u16; 64], n: usize, set: u16) -> u16
     ensures { result ≡ pass (rules_in rules.now n) set }
 {
     let mut s = set;
-    let mut i: usize = 0;
-    while i < n {
+    for i in 0..n {
         s = fire(rules[2 * i], rules[2 * i + 1], s);
-        i += 1;
     }
     s
 }

@@ -1,8 +1,13 @@
 -- Words of a slice stored one after another.
-use Rattle.std.specs.Prelude.{◌≡◌, List, ℕ, ◌+◌, ◌*◌, ◌/◌, ◌%◌, ◌≤◌, ◌<◌, ltb, length, get_or, set}
+use Rattle.std.specs.Prelude.{◌≡◌, List, ℕ, ◌+◌, ◌*◌, ◌/◌, ◌%◌, ◌≤◌, ◌<◌, ltb, length, get_or, set, take, replicate, ◌++◌}
 use Rattle.std.proofs.Common.{sym, ap, ◌∙◌, inl, inr, arith, get_or-set_same, get_or-set_other, ltb-true, ltb-false}
+use Rattle.std.proofs.Common.{length-append, length-take, length-take-le, length-drop}
+use Rattle.std.proofs.Math.ListN.{get_or-append}
+use Rattle.std.proofs.lemmas.List.{get_or-append-add, get_or-replicate, length-replicate}
+use Rattle.std.proofs.lemmas.Slice.{take-put_mid_below, drop-put_mid}
+use borrow.Rule.Slice.PartMut.{put_mid, post_of}
 use Rattle.search_laws.specs.TestLaws.{Tested, passes, fails, tested}
-use Rattle.search_laws.specs.Frames.{SameOutside, outside_same, outside_set, outside_wider, outside_again}
+use Rattle.search_laws.specs.Frames.{SameOutside, outside_same, outside_of_ends, outside_set, outside_wider, outside_again}
 use Rattle.search_laws.specs.FactSets.{digit}
 use Rattle.set_digits.specs.SetDigits.{Marked}
 
@@ -14,6 +19,26 @@ pub record Filled (at k : ℕ) (w v : List ℕ) (word : ℕ → ℕ) : Type 0 wh
 -- no word yet
 pub filled_none : (at : ℕ) (w : List ℕ) (word : ℕ → ℕ) → Filled at 0 w w word
 filled_none at w word = record { words = λ i h. absurd (omega arith); same = outside_same at (at + 0) w }
+
+-- a run of one word put there
+pub filled_run : (at k n x : ℕ) (w run : List ℕ) → k ≡ n → at + n ≤ length w → run ≡ replicate n x → Filled at n w (put_mid at k w run) (λ i. x)
+filled_run at k n x w run e room is =
+    record {
+      words = λ i h.
+          ap (λ (z : ℕ). get_or (put_mid at k w run) (z + i) 0) (sym before)
+          ∙ get_or-append-add (take at w) (run ++ post_of at k w) i 0
+          ∙ get_or-append run (post_of at k w) 0 i (omega (arith, long))
+          ∙ ap (λ (l : List ℕ). get_or l i 0) is
+          ∙ get_or-replicate n i x 0 h;
+      same = outside_of_ends at (at + n) w (put_mid at k w run) (simp (length-append, length-take, length-drop) (omega (arith, long)))
+          (take-put_mid_below at k w run at (omega arith) (omega arith)) (drop-put_mid at k w run (at + n) (omega arith) (omega arith) long);
+    }
+  where
+    long : length run ≡ k
+    long = ap length is ∙ length-replicate n x ∙ sym e
+
+    before : length (take at w) ≡ at
+    before = length-take-le at w (omega arith)
 
 module _ {at k : ℕ} {w v : List ℕ} {word : ℕ → ℕ} (f : Filled at k w v word) where
   -- the words before are as they were

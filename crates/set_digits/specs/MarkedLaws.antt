@@ -1,13 +1,11 @@
 -- Laws of the digits of sets in words: no mark, the same marks, as many words as the sets need.
-use Rattle.std.specs.Prelude.{◌≡◌, refl, Bool, true, false, ◌&&◌, List, [], ◌∷◌, ◌++◌, ℕ, ◌+◌, ◌-◌, ◌*◌, ◌/◌, ◌%◌, ◌^◌, ◌≤◌, ◌<◌, eqb, ltb, length, get_or, take, drop}
-use Rattle.std.proofs.Common.{sym, ap, ap₂, ◌∙◌, arith, add-one, pow_mono, pow-add, length-take, length-drop, take-suc, get_or-take, get_or-drop, ltb-true, ltb-false, lt-ltb, eqb-true, eq-eqb}
-use Rattle.std.specs.Int.Bits.{bit_or}
-use Rattle.search_laws.specs.Lists.{all}
-use Rattle.search_laws.specs.TestLaws.{Tested, passes, fails, tested, same_test, and_left, and_right}
+use Rattle.std.specs.Prelude.{◌≡◌, true, List, ℕ, ◌+◌, ◌-◌, ◌*◌, ◌/◌, ◌%◌, ◌^◌, ◌≤◌, ◌<◌, eqb, ltb, length, get_or, take, drop}
+use Rattle.std.proofs.Common.{sym, ap, ◌∙◌, arith, pow_mono, pow-add, length-take, length-drop, get_or-take, get_or-drop, ltb-true, ltb-false, lt-ltb, eqb-true}
+use Rattle.search_laws.specs.TestLaws.{Tested, passes, fails, tested}
 use Rattle.search_laws.specs.Members.{all_yes}
 use Rattle.search_laws.specs.ListPlaces.{get_d_in}
 use Rattle.search_laws.specs.FactSets.{digit}
-use Rattle.search_laws.specs.FactSetLaws.{zero_digit, within_le, within_or_left, within_or_right}
+use Rattle.search_laws.specs.FactSetLaws.{zero_digit}
 use Rattle.set_digits.specs.SetDigits.{bit, words_of, mark, none_marked, FirstWord}
 
 -- marks agree where the words do
@@ -53,35 +51,3 @@ first_word_digit facts x f s h = f.digits (s % 32) (omega arith) ∙ go (tested 
     go (fails p) =
         let l : s < 2 ^ facts = omega (arith, words_exact facts (ltb-false facts 5 p)) in
         rw (lt-ltb s (2 ^ facts) l, lt-ltb (s % 32) (2 ^ facts) (omega arith))
-
--- ---- no mark, by the union of the words
--- a union is empty where both sets are
-pub or_none : (a b : ℕ) → eqb (bit_or a b) 0 ≡ (eqb a 0 && eqb b 0)
-or_none a b =
-    same_test (eqb (bit_or a b) 0) (eqb a 0 && eqb b 0)
-    (λ h.
-    let e = eqb-true (bit_or a b) 0 h in
-    rw (eq-eqb a 0 (omega (arith, within_le (within_or_left a b))), eq-eqb b 0 (omega (arith, within_le (within_or_right a b)))))
-    (λ h. rw (eqb-true a 0 (and_left (eqb a 0) (eqb b 0) h), eqb-true b 0 (and_right (eqb a 0) (eqb b 0) h)))
-
-all_one_more : (p : ℕ → Bool) (xs : List ℕ) (y : ℕ) → all p (xs ++ (y ∷ [])) ≡ (all p xs && p y)
-all_one_more p [] y = go (p y)
-  where
-    go : (t : Bool) → (t && true) ≡ t
-    go true = refl
-    go false = refl
-all_one_more p (x ∷ xs) y = ap (λ (t : Bool). p x && t) (all_one_more p xs y) ∙ go (p x)
-  where
-    go : (t : Bool) → (t && (all p xs && p y)) ≡ ((t && all p xs) && p y)
-    go true = refl
-    go false = refl
-
--- one word more
-pub none_next : (w : List ℕ) (at k x : ℕ) → at + k < length w → eqb x 0 ≡ none_marked w at k
-    → eqb (bit_or x (get_or w (at + k) 0)) 0 ≡ none_marked w at (k + 1)
-none_next w at k x h e =
-    let l : k < length (drop at w) = simp length-drop (omega arith) in
-    or_none x (get_or w (at + k) 0) ∙ ap₂ (λ (s t : Bool). s && t) e (ap (λ (y : ℕ). eqb y 0) (sym (get_or-drop at w k 0)))
-    ∙ sym (all_one_more (λ y. eqb y 0) (take k (drop at w)) (get_or (drop at w) k 0))
-    ∙ ap (λ (ys : List ℕ). all (λ y. eqb y 0) ys)
-    (sym (take-suc (drop at w) k 0 l) ∙ ap (λ (n : ℕ). take n (drop at w)) (sym (add-one k)))

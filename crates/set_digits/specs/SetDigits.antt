@@ -1,5 +1,5 @@
 -- One digit for each set of facts, 32 sets to a word: the digit of set s is digit s % 32 of the word at s / 32.
-use Rattle.std.specs.Prelude.{◌≡◌, Bool, true, false, cond, List, ℕ, ◌+◌, ◌-◌, ◌*◌, ◌/◌, ◌%◌, ◌^◌, ◌≤◌, ◌<◌, length, get_or, take, drop, eqb, ltb}
+use Rattle.std.specs.Prelude.{◌≡◌, Bool, cond, List, ℕ, ◌+◌, ◌-◌, ◌*◌, ◌/◌, ◌%◌, ◌^◌, ◌<◌, get_or, take, drop, eqb, ltb}
 use Rattle.search_laws.specs.Lists.{select, all}
 use Rattle.search_laws.specs.Frames.{SameOutside}
 use Rattle.search_laws.specs.FactSets.{digit}

@@ -35,10 +35,7 @@ pub fn words_of(facts: u16) -> usize
     requires { facts ≤ max_facts }
     ensures { (result ≡ words_of facts) × (result ≤ words_of max_facts) }
 {
-    if facts < 5 {
-        return 1;
-    }
-    1 << (facts - 5)
+    1 << facts.saturating_sub(5)
 }
 
 // The first word with the digit of every set of so many facts.
@@ -50,7 +47,7 @@ fn first_word(facts: u16) -> u32
         let sets: u32 = 1 << facts;
         return (1 << sets) - 1;
     }
-    4294967295
+    u32::MAX
 }
 
 // Every set of so many facts marked, and no other.
@@ -60,11 +57,7 @@ pub fn mark_all(work: &mut [u32], at: usize, facts: u16)
 {
     let words = words_of(facts);
     let full = first_word(facts);
-    let mut i: usize = 0;
-    while i < words {
-        work[at + i] = full;
-        i += 1;
-    }
+    work[at..at + words].fill(full);
 }
 
 // The digits of the sets that include a and not b cleared.
@@ -79,10 +72,11 @@ pub fn clear_sets(work: &mut [u32], at: usize, words: usize, a: usize, b: usize)
     let other = b / 32;
     let mut w = high;
     while w < words {
-        let mut gone = with;
-        if w & other == other {
-            gone = without(with, stay);
-        }
+        let gone = if w & other == other {
+            without(with, stay)
+        } else {
+            with
+        };
         work[at + w] = without(work[at + w], gone);
         w = high | (w + 1);
     }
@@ -98,17 +92,14 @@ pub fn copy_between(work: &mut [u32], from: usize, to: usize, words: usize, d: u
     let asked = above(c % 32);
     let high = d / 32;
     let other = c / 32;
-    let mut w: usize = 0;
-    while w < words {
-        let mut kept: u32 = 0;
-        if w & high == high {
-            kept = with;
-        }
-        if w & other == other {
-            kept = without(kept, asked);
-        }
+    for w in 0..words {
+        let all = if w & high == high { with } else { 0 };
+        let kept = if w & other == other {
+            without(all, asked)
+        } else {
+            all
+        };
         work[to + w] = work[from + w] & kept;
-        w += 1;
     }
 }
 
@@ -118,10 +109,8 @@ pub fn turn_within(work: &mut [u32], from: usize, to: usize, words: usize)
     ensures { Marked to words work.old work.new
         (λ s. cond (eqb (mark work.old to s) 1) 0 (mark work.old from s)) }
 {
-    let mut w: usize = 0;
-    while w < words {
+    for w in 0..words {
         work[to + w] = without(work[from + w], work[to + w]);
-        w += 1;
     }
 }
 
@@ -130,13 +119,7 @@ pub fn none_marked(work: &[u32], at: usize, words: usize) -> bool
     requires { (words ≤ words_of max_facts) × (at + words ≤ length work.now) }
     ensures { result ≡ none_marked work.now at words }
 {
-    let mut x: u32 = 0;
-    let mut w: usize = 0;
-    while w < words {
-        x = x | work[at + w];
-        w += 1;
-    }
-    x == 0
+    work[at..at + words].iter().all(|x| *x == 0)
 }
 
 // How many sets are marked.
@@ -145,10 +128,8 @@ pub fn count_marked(work: &[u32], at: usize, words: usize) -> usize
     ensures { result ≡ length (marked_sets work.now at words) }
 {
     let mut n: u32 = 0;
-    let mut w: usize = 0;
-    while w < words {
-        n += u32::count_ones(work[at + w]);
-        w += 1;
+    for w in 0..words {
+        n += work[at + w].count_ones();
     }
     n as usize
 }

@@ -1,4 +1,5 @@
 -- What the grouping over a set in the work slice returns and leaves in both slices.
+use Rattle.report_bytes.specs.Outcome.{Outcome}
 use Rattle.std.specs.Prelude.{◌≡◌, ℕ, ◌≤◌}
 use mathlib.Core.List.{List, Memᴰ}
 use Rattle.sheet_types.specs.SheetLimits.{max_starts}
@@ -10,7 +11,7 @@ use Rattle.class_rounds.specs.RoundAtHand.{SetReady}
 use Rattle.report_bytes.specs.AnswerMade.{AnswerMade}
 use Rattle.all_starts.specs.Grouping.{grouping_on, grouping_bytes}
 use Rattle.all_starts.specs.GroupingRead.{groups_returned}
-use Rattle.all_starts.specs.declared.AllAnswer.{AllAnswer}
+use Rattle.all_starts.specs.declared.Grouped.{Grouped}
 
 -- A closed set in its order stands in the slice, and has all starts of the sheet.
 pub record AllHeld (sheet : Sheet) (set : List Configuration) (w : List ℕ) (n m : ℕ) (starts : List held.Configuration) (k : ℕ) : Type 0 where
@@ -28,6 +29,6 @@ pub record GroupingReady (w : List ℕ) (n m : ℕ) (starts : List held.Configur
 
 -- The work slice v became w, the answer slice `before` became `after`, and `answer` was returned: document 02's outcome, whatever closed
 -- set with all starts of a sheet stands in v; nothing behind the work places is changed.
-abbrev pub GroupingMade : List ℕ → List ℕ → ℕ → ℕ → List held.Configuration → ℕ → List ℕ → List ℕ → AllAnswer → Type 0
+abbrev pub GroupingMade : List ℕ → List ℕ → ℕ → ℕ → List held.Configuration → ℕ → List ℕ → List ℕ → Outcome Grouped → Type 0
 GroupingMade v before n m starts k w after answer =
     AnswerMade grouping_bytes groups_returned grouping_on (λ sheet set. AllHeld sheet set v n m starts k) v before w after answer

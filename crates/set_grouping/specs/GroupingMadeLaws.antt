@@ -1,4 +1,5 @@
 -- From the rounds to the grouping: what stands in the work slice after each step, and that its bytes are document 02's.
+use Rattle.report_bytes.specs.Outcome.{refusal, reported}
 use Rattle.std.specs.Prelude.{◌≡◌, ℕ, ◌+◌, ◌*◌, ◌≤◌, ◌<◌, length, get_or}
 use Rattle.std.proofs.Common.{sym, ◌∙◌, subst, arith, length-append}
 use Rattle.std.proofs.Math.Path.{ap, ap₂}
@@ -30,7 +31,6 @@ use Rattle.start_classes.specs.StoredText.{stored_then}
 use Rattle.report_bytes.specs.BytesStored.{stored_front}
 use Rattle.all_starts.specs.Grouping.{grouping_on, grouping_bytes}
 use Rattle.all_starts.specs.GroupingRead.{groups_returned}
-use Rattle.all_starts.specs.declared.AllAnswer.TheVariants.{Classes, Refused}
 use Rattle.set_grouping.specs.GroupingMade.{AllHeld, GroupingReady, GroupingMade}
 
 -- the rounds can be made
@@ -104,17 +104,17 @@ module _ {v : List ℕ} {n m : ℕ} {w : List ℕ} {r count : ℕ} (R : Refined 
     Held sheet set = AllHeld sheet set v n m starts k
 
     -- the answer slice is too short
-    pub grouping_refused : length before < size → GroupingMade v before n m starts k x before (Refused short_answer size)
+    pub grouping_refused : length before < size → GroupingMade v before n m starts k x before (refusal short_answer size)
     grouping_refused h =
-        subst (λ (z : ℕ). GroupingMade v before n m starts k x before (Refused short_answer z)) (sym es)
+        subst (λ (z : ℕ). GroupingMade v before n m starts k x before (refusal short_answer z)) (sym es)
         (made_refused grouping_bytes groups_returned grouping_on Held grouping_outside (held_grouping x n starts k)
         (λ sheet set S. grouping_bytes_lem S L) before (omega (arith, es)))
 
     -- the members and the classes of the starts are written into its front
     pub grouping_given : size ≤ length before → {mid after : List ℕ} {at end : ℕ} → Stored before 0 (members_part x n) mid at
-        → Stored mid at (starts_part x n starts k) after end → GroupingMade v before n m starts k x after (Classes (record { round = r; length = size }))
+        → Stored mid at (starts_part x n starts k) after end → GroupingMade v before n m starts k x after (reported (record { round = r; length = size }))
     grouping_given h s t =
         made_given grouping_bytes groups_returned grouping_on Held grouping_outside (held_grouping x n starts k) (λ sheet set S. grouping_bytes_lem S L) before
         (omega (arith, es)) (stored_front (stored_then s t) (omega (arith, es)))
         (λ sheet set S.
-        ap₂ (λ (a b : ℕ). Classes (record { round = a; length = b })) (grouping_round S L) (es ∙ ap length (grouping_bytes_lem S L)))
+        ap₂ (λ (a b : ℕ). reported (record { round = a; length = b })) (grouping_round S L) (es ∙ ap length (grouping_bytes_lem S L)))

@@ -1,13 +1,13 @@
 -- What is noted and entered while the moves of one member are collected stays within the set, and where there is no room the
 -- set itself passes a limit.
-use Rattle.std.specs.Prelude.{◌≡◌, refl, true, ℕ, ◌+◌, ◌-◌, ◌/◌, ◌%◌, ◌<◌, length, get_or}
+use Rattle.std.specs.Prelude.{◌≡◌, true, ℕ, ◌+◌, ◌-◌, ◌/◌, ◌%◌, ◌<◌, length, get_or}
 use Rattle.std.proofs.Common.{sym, ap, ◌∙◌, subst, ⊎_elim, arith, length-append}
 use mathlib.Core.List.{List, [], ◌∷◌, ◌++◌, map, Memᴰ}
 use Rattle.std.proofs.lemmas.List.{length-map}
 use Rattle.collected_moves.specs.Tabulate.{tabulate_at, tabulate_length}
 use Rattle.collected_moves.specs.TabulateLaws.{mem_tabulate, tabulate_mem}
 use Rattle.comparison_laws.specs.Members.{mem_map, map_mem}
-use Rattle.comparison_laws.specs.Lists.{Distinct, no_elements, one_more}
+use Rattle.comparison_laws.specs.Lists.{Distinct, one_more}
 use Rattle.comparison_laws.specs.Counting.{distinct_append, distinct_map, distinct_map_on, ascends_distinct}
 use Rattle.comparison_laws.specs.Stores.{strictly_below}
 use Rattle.comparison_laws.specs.StoreLaws.{below_within}

@@ -1,86 +1,36 @@
 -- The ways through the loops that copy and that put places for ids: each step keeps what was promised of those before it.
 use Rattle.std.specs.Prelude.{◌≡◌, refl, ◌⊎◌, Bool, true, false, List, ℕ, ◌+◌, ◌*◌, ◌-◌, ◌/◌, ◌%◌, ◌≤◌, ◌<◌, length, get_or, set, ltb}
-use Rattle.std.proofs.Common.{sym, ap, ◌∙◌, subst, inl, inr, arith, length-set, get_or-set_same, get_or-set_other, ltb-true, ltb-false}
-use Rattle.number_lists.specs.Frames.{SameOutside, outside_same, outside_set, outside_again, outside_wider}
+use Rattle.std.proofs.Common.{sym, ap, ◌∙◌, subst, inl, inr, arith, get_or-set_same, get_or-set_other, ltb-true, ltb-false}
+use Rattle.std.specs.List.{CopiedTo, SameBelow, SameFrom}
+use Rattle.number_lists.specs.Frames.{SameOutside, outside_set, outside_again}
 use Rattle.member_table.specs.MemberTable.{id_in, Kept}
 use Rattle.member_table.specs.TableInPart.{part_outside, kept_outside}
 use Rattle.member_table.specs.MemberLaws.{ids_apart}
 use Rattle.collected_moves.specs.CollectedMoves.{member_part}
-use Rattle.set_order.specs.SetOrderSteps.{IdsPlaced, placed_number, TargetFits, TargetsPlaced, CopiedAside, AllAside, SpansKept, Copied}
+use Rattle.set_order.specs.SetOrderSteps.{IdsPlaced, placed_number, CopiedAside, AllAside, SpansKept, Copied}
 use Rattle.work_layout.specs.WorkLayout.{work_end, spans_at, members_at, places_at, spare_members_at, spare_spans_at, member_room}
 
 -- ---- numbers copied
-pub copied_none : (v : List ℕ) (from to : ℕ) → Copied v from to 0 v
-copied_none v from to = record { at = λ i h. absurd (omega arith); outside = outside_same to (to + 0) v }
-
-module _ {v w : List ℕ} {from to i : ℕ} (k : ℕ) (c : Copied v from to i w) (h : i < k) (o : (from + k ≤ to) ⊎ (to + k ≤ from))
-    (l : to + k ≤ length v) where
-  unread : (from + k ≤ to) ⊎ (to + k ≤ from) → get_or w (from + i) 0 ≡ get_or v (from + i) 0
-  unread (inl s) = c.outside.at (from + i) (inl (omega arith))
-  unread (inr s) = c.outside.at (from + i) (inr (omega arith))
-
-  pub copied_more : Copied v from to (i + 1) (set w (to + i) (get_or w (from + i) 0))
-  copied_more =
-      record {
-        at = λ j m. go j m (ltb j i) refl;
-        outside =
-            outside_again (outside_wider c.outside to (to + (i + 1)) (omega arith) (omega arith))
-            (outside_set to (to + (i + 1)) w (to + i) (get_or w (from + i) 0) (omega arith) (omega arith));
-      }
-    where
-      go : (j : ℕ) → j < i + 1 → (b : Bool) → ltb j i ≡ b → get_or (set w (to + i) (get_or w (from + i) 0)) (to + j) 0 ≡ get_or v (from + j) 0
-      go j m true e =
-          let s : j < i = ltb-true j i e in
-          get_or-set_other w (to + i) (to + j) (get_or w (from + i) 0) 0 (omega arith) ∙ c.at j s
-      go j m false e =
-          let q : j ≡ i = omega (arith, ltb-false j i e) in
-          ap (λ (z : ℕ). get_or (set w (to + i) (get_or w (from + i) 0)) (to + z) 0) q
-          ∙ get_or-set_same w (to + i) (get_or w (from + i) 0) 0 (omega (arith, c.outside.long)) ∙ unread o
-          ∙ ap (λ (z : ℕ). get_or v (from + z) 0) (sym q)
+pub copied_within : (v w : List ℕ) (from k to : ℕ) → length w ≡ length v
+    → CopiedTo v w from to (from + k - from) × SameBelow v w to × SameFrom v w (to + (from + k - from)) → Copied v from to k w
+copied_within v w from k to l c =
+    record {
+      at = λ i h.
+          let e : to + i - to ≡ i = omega arith in
+          c.0 (to + i) 0 (omega arith) (omega arith) ∙ ap (λ (z : ℕ). get_or v (from + z) 0) e;
+      outside =
+          record {
+            at = λ i o. elim o [ inl h ↦ c.1 i 0 h | inr h ↦ c.2 i 0 (omega arith) ];
+            long = l;
+          };
+    }
 
 -- ---- places for ids
 -- a change before the places of ids leaves them alone
 pub placed_outside : {a b : ℕ} {v w : List ℕ} → SameOutside a b v w → b ≤ places_at → (y : ℕ) → placed_number w y ≡ placed_number v y
 placed_outside {a} {b} {v} {w} s h y = ap (λ (p : ℕ). y / 65536 * 65536 + p) (s.at (places_at + y % 65536) (inr (omega arith)))
 
-pub fits_outside : {a b : ℕ} {v w : List ℕ} → SameOutside a b v w → b ≤ places_at → (y : ℕ) → TargetFits v y → TargetFits w y
-fits_outside {a} {b} {v} {w} s h y t =
-    record { id = t.id; place = subst (λ (p : ℕ). p < 65536) (sym (s.at (places_at + y % 65536) (inr (omega arith)))) t.place }
-
-pub targets_none : (v : List ℕ) (from : ℕ) → TargetsPlaced v from from v
-targets_none v from = record { at = λ k h l. absurd (omega arith); outside = outside_same from from v }
-
-module _ {v w : List ℕ} {from i : ℕ} (t : TargetsPlaced v from i w) (h : from ≤ i) (k : i < places_at) where
-  -- the next number is as it was
-  pub target_left : get_or w i 0 ≡ get_or v i 0
-  target_left = t.outside.at i (inr (omega arith))
-
-  pub target_fits : TargetFits v (get_or v i 0) → TargetFits w (get_or w i 0)
-  target_fits f = subst (λ (y : ℕ). TargetFits w y) (sym target_left) (fits_outside t.outside (omega arith) (get_or v i 0) f)
-
-  pub targets_more : i < length v → (x : ℕ) → x ≡ placed_number w (get_or w i 0) → TargetsPlaced v from (i + 1) (set w i x)
-  targets_more l x e =
-      record {
-        at = λ j m n. go j m n (ltb j i) refl;
-        outside =
-            outside_again (outside_wider t.outside from (i + 1) (omega arith) (omega arith))
-            (outside_set from (i + 1) w i x h (omega arith));
-      }
-    where
-      go : (j : ℕ) → from ≤ j → j < i + 1 → (b : Bool) → ltb j i ≡ b → get_or (set w i x) j 0 ≡ placed_number v (get_or v j 0)
-      go j m n true q =
-          let s : j < i = ltb-true j i q in
-          get_or-set_other w i j x 0 (omega arith) ∙ t.at j m s
-      go j m n false q =
-          let z : j ≡ i = omega (arith, ltb-false j i q) in
-          ap (λ (s : ℕ). get_or (set w i x) s 0) z ∙ get_or-set_same w i x 0 (omega (arith, t.outside.long)) ∙ e
-          ∙ ap (placed_number w) target_left ∙ placed_outside t.outside (omega arith) (get_or v i 0)
-          ∙ ap (λ (s : ℕ). placed_number v (get_or v s 0)) (sym z)
-
 -- ---- the places of ids
-pub ids_none : (v : List ℕ) → IdsPlaced v 0 v
-ids_none v = record { at = λ j h. absurd (omega arith); outside = outside_same places_at (places_at + member_room) v }
-
 module _ {v w : List ℕ} {i : ℕ} (n : ℕ) (p : IdsPlaced v i w) (k : Kept (member_part v) n) (h : i < n) where
   pub ids_kept : Kept (member_part w) n
   ids_kept = kept_outside p.outside members_at n (inl (omega arith)) k
@@ -117,42 +67,6 @@ module _ {v w : List ℕ} {i : ℕ} (n : ℕ) (p : IdsPlaced v i w) (k : Kept (m
           ∙ get_or-set_same w (places_at + id) i 0 (omega (arith, p.outside.long)) ∙ sym f
 
 -- ---- members and spans copied aside
--- three numbers copied and the span stored
-pub aside_stored : {v u : List ℕ} {n j id : ℕ} → SpansKept v n → j < n → id ≡ id_in (member_part v) j
-    → Copied v (members_at + 3 * id) (spare_members_at + 3 * j) 3 u → CopiedAside v j (set u (spare_spans_at + j) (get_or v (spans_at + id) 0 - 1))
-aside_stored {v} {u} {n} {j} {id} k h e c =
-    let r : n ≤ member_room = k.kept.room in
-    let x : ℕ = get_or v (spans_at + id) 0 - 1 in
-    let z : spare_members_at + 3 * j + 0 ≡ spare_members_at + 3 * j = omega arith in
-    let y : members_at + 3 * id + 0 ≡ members_at + 3 * id = omega arith in
-    record {
-      first =
-          get_or-set_other u (spare_spans_at + j) (spare_members_at + 3 * j) x 0 (omega arith)
-          ∙ ap (λ (i : ℕ). get_or u i 0) (sym z) ∙ c.at 0 (omega arith) ∙ ap (λ (i : ℕ). get_or v i 0) y
-          ∙ ap (λ (i : ℕ). get_or v (members_at + 3 * i) 0) e;
-      second =
-          get_or-set_other u (spare_spans_at + j) (spare_members_at + 3 * j + 1) x 0 (omega arith) ∙ c.at 1 (omega arith)
-          ∙ ap (λ (i : ℕ). get_or v (members_at + 3 * i + 1) 0) e;
-      third =
-          get_or-set_other u (spare_spans_at + j) (spare_members_at + 3 * j + 2) x 0 (omega arith) ∙ c.at 2 (omega arith)
-          ∙ ap (λ (i : ℕ). get_or v (members_at + 3 * i + 2) 0) e;
-      span =
-          get_or-set_same u (spare_spans_at + j) x 0 (omega (arith, c.outside.long, k.long))
-          ∙ ap (λ (i : ℕ). get_or v (spans_at + i) 0 - 1) e;
-      others = λ i o d. get_or-set_other u (spare_spans_at + j) i x 0 d ∙ c.outside.at i o;
-      long = length-set u (spare_spans_at + j) x ∙ c.outside.long;
-    }
-
-pub aside_none : (v : List ℕ) → AllAside v 0 v
-aside_none v =
-    record {
-      first = λ j h. absurd (omega arith);
-      second = λ j h. absurd (omega arith);
-      third = λ j h. absurd (omega arith);
-      span = λ j h. absurd (omega arith);
-      outside = outside_same spare_members_at work_end v;
-    }
-
 module _ {v w : List ℕ} {i : ℕ} (n : ℕ) (a : AllAside v i w) (k : SpansKept v n) (h : i < n) where
   pub aside_kept : SpansKept w n
   aside_kept =

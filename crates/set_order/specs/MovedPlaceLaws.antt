@@ -7,15 +7,15 @@ use Rattle.number_lists.specs.ListPlaces.{map_alike}
 use Rattle.number_lists.specs.Tabulate.{tabulate, tabulate_same}
 use Rattle.number_lists.specs.Lists.{Distinct, no_elements, one_more, arrange}
 use Rattle.number_lists.specs.Counting.{ascends_distinct}
-use Rattle.number_lists.specs.Frames.{SameOutside, outside_same, outside_again, outside_wider}
+use Rattle.number_lists.specs.Frames.{SameOutside, outside_again, outside_wider}
 use Rattle.number_lists.specs.AscendingLaws.{number_order}
 use Rattle.number_lists.specs.NumberLists.{numbers_in}
 use Rattle.number_lists.specs.NumberLaws.{numbers_tabulate, numbers_at_lem, numbers_outside}
 use Rattle.number_lists.specs.Entered.{Sorted}
 use Rattle.set_order.specs.OrderedSet.{span_first, span_total, span_numbers}
-use Rattle.set_order.specs.SetOrderSteps.{placed_number, placed_numbers, part_by, TargetFits, TargetsPlaced, NumbersReady, MovesReady, MovesArranged, SpansApart, AllReady, AllArranged}
-use Rattle.set_order.specs.CopyLaws.{placed_outside, fits_outside}
-use Rattle.work_layout.specs.WorkLayout.{work_end, spans_at, moves_at, members_at, places_at, move_room}
+use Rattle.set_order.specs.SetOrderSteps.{placed_number, placed_numbers, part_by, TargetFits, TargetsPlaced, MovesReady, MovesArranged, SpansApart, AllReady, AllArranged}
+use Rattle.set_order.specs.CopyLaws.{placed_outside}
+use Rattle.work_layout.specs.WorkLayout.{work_end, spans_at, moves_at, members_at}
 
 -- ---- images
 -- a map that tells the elements of a list apart keeps them distinct
@@ -72,23 +72,6 @@ module _ {v : List ℕ} {id : ℕ} (l : work_end ≤ length v) (r : MovesReady v
         }
 
 -- ---- one member after another
-pub all_none : (v : List ℕ) (n : ℕ) → AllArranged v n 0 v
-all_none v n =
-    record {
-      arranged = λ id h. absurd (omega arith);
-      left = λ id h k. refl;
-      outside = outside_same moves_at members_at v;
-    }
-
--- a change before the places of ids leaves numbers ready
-pub numbers_ready : {a b : ℕ} {v w : List ℕ} → SameOutside a b v w → b ≤ places_at → (ys : List ℕ) → NumbersReady v ys → NumbersReady w ys
-numbers_ready s h ys r =
-    record {
-      ascending = r.ascending;
-      fit = λ y m. fits_outside s h y (r.fit y m);
-      apart = λ y z m k e. r.apart y z m k (sym (placed_outside s h y) ∙ e ∙ placed_outside s h z);
-    }
-
 module _ {v w : List ℕ} {n i : ℕ} (a : AllArranged v n i w) (r : AllReady v n) (h : i < n) where
   same_span : get_or w (spans_at + i) 0 ≡ get_or v (spans_at + i) 0
   same_span = a.outside.at (spans_at + i) (inl (omega (arith, r.room)))
@@ -99,17 +82,6 @@ module _ {v w : List ℕ} {n i : ℕ} (a : AllArranged v n i w) (r : AllReady v 
 
   same_numbers : span_numbers w i ≡ span_numbers v i
   same_numbers = same_part w ∙ a.left i (omega arith) h
-
-  pub all_ready : MovesReady w i
-  all_ready =
-      let m = r.ready i h in
-      record {
-        explored = subst (λ (s : ℕ). 0 < s) (sym same_span) m.explored;
-        within = subst (λ (s : ℕ). (s - 1) / 65536 + (s - 1) % 65536 ≤ move_room) (sym same_span) m.within;
-        numbers =
-            subst (λ (ys : List ℕ). NumbersReady w ys) (sym same_numbers)
-            (numbers_ready a.outside (omega arith) (span_numbers v i) m.numbers);
-      }
 
   module _ {u : List ℕ} (m : MovesArranged w i u) where
     only_part : SameOutside (moves_at + span_first v i) (moves_at + span_first v i + span_total v i) w u

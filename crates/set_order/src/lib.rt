@@ -1,10 +1,10 @@
 // The explored set put into document 01's order: members by their places, and each move with the place of its target.
 #![tactic(auto)]
 
-ghost use Rattle.std.specs.Prelude.{◌≡◌, ◌⊎◌, ℕ, ◌+◌, ◌≤◌, ◌<◌, length, get_or};
+ghost use Rattle.std.specs.Prelude.{◌≡◌, ℕ, ◌≤◌, ◌<◌, length, get_or};
 ghost use Rattle.member_table.specs.MemberTable.{Kept};
 ghost use Rattle.collected_moves.specs.CollectedMoves.{member_part};
-ghost use Rattle.set_order.specs.SetOrderSteps.{IdsPlaced, placed_number, TargetFits, TargetsPlaced, MovesReady, MovesArranged, AllReady, AllArranged, SpansKept, CopiedAside, AllAside, Copied, DiscoveredSome, ArrangedAll};
+ghost use Rattle.set_order.specs.SetOrderSteps.{IdsPlaced, placed_number, TargetFits, TargetsPlaced, MovesReady, MovesArranged, AllReady, AllArranged, SpansKept, CopiedAside, AllAside, DiscoveredSome, ArrangedAll};
 ghost use Rattle.work_layout.specs.WorkLayout.{work_end, places_at, member_room};
 
 use work_layout::{MEMBERS, MOVES, PLACES, SPANS, SPARE_MEMBERS, SPARE_SPANS};
@@ -14,11 +14,9 @@ fn place_ids(work: &mut [u32], n: usize)
     requires { (work_end ≤ length work.old) × Kept (member_part work.old) n }
     ensures { IdsPlaced work.old n work.new }
 {
-    let mut j: usize = 0;
-    while j < n {
+    for j in 0..n {
         let id = member_table::id_at(work, MEMBERS, n, j);
         work[PLACES + id] = j as u32;
-        j += 1;
     }
 }
 
@@ -37,10 +35,8 @@ fn place_targets(work: &mut [u32], from: usize, end: usize)
         × ((k : ℕ) → from ≤ k → k < end → TargetFits work.old (get_or work.old k 0)) }
     ensures { TargetsPlaced work.old from end work.new }
 {
-    let mut i = from;
-    while i < end {
+    for i in from..end {
         work[i] = placed_number(work, work[i]);
-        i += 1;
     }
 }
 
@@ -61,22 +57,8 @@ fn arrange_all(work: &mut [u32], n: usize)
     requires { AllReady work.old n }
     ensures { AllArranged work.old n n work.new }
 {
-    let mut id: usize = 0;
-    while id < n {
+    for id in 0..n {
         arrange_moves(work, id);
-        id += 1;
-    }
-}
-
-// k numbers copied from a place to another.
-fn copy_numbers(work: &mut [u32], from: usize, to: usize, k: usize)
-    requires { (from + k ≤ length work.old) × (to + k ≤ length work.old) × ((from + k ≤ to) ⊎ (to + k ≤ from)) }
-    ensures { Copied work.old from to k work.new }
-{
-    let mut i: usize = 0;
-    while i < k {
-        work[to + i] = work[from + i];
-        i += 1;
     }
 }
 
@@ -87,7 +69,8 @@ fn copy_aside(work: &mut [u32], n: usize, j: usize)
 {
     let id = member_table::id_at(work, MEMBERS, n, j);
     let span = work[SPANS + id] - 1;
-    copy_numbers(work, MEMBERS + 3 * id, SPARE_MEMBERS + 3 * j, 3);
+    let at = MEMBERS + 3 * id;
+    work.copy_within(at..at + 3, SPARE_MEMBERS + 3 * j);
     work[SPARE_SPANS + j] = span;
 }
 
@@ -95,10 +78,8 @@ fn copy_all_aside(work: &mut [u32], n: usize)
     requires { SpansKept work.old n }
     ensures { AllAside work.old n work.new }
 {
-    let mut j: usize = 0;
-    while j < n {
+    for j in 0..n {
         copy_aside(work, n, j);
-        j += 1;
     }
 }
 
@@ -110,6 +91,6 @@ pub fn arrange(work: &mut [u32], n: usize)
     place_ids(work, n);
     arrange_all(work, n);
     copy_all_aside(work, n);
-    copy_numbers(work, SPARE_MEMBERS, MEMBERS, 3 * n);
-    copy_numbers(work, SPARE_SPANS, SPANS, n);
+    work.copy_within(SPARE_MEMBERS..SPARE_MEMBERS + 3 * n, MEMBERS);
+    work.copy_within(SPARE_SPANS..SPARE_SPANS + n, SPANS);
 }

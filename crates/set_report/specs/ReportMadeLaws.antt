@@ -1,5 +1,6 @@
 -- From the rounds to the report: what stands in the work slice after each step, and that in the end it agrees with document 01's
 -- report on the set.
+use Rattle.answers.specs.Outcome.{refusal, reported}
 use Rattle.std.specs.Prelude.{◌≡◌, refl, Bool, true, false, cond, ℕ, suc, ◌+◌, ◌*◌, ◌-◌, ◌/◌, ◌%◌, ◌≤◌, ◌<◌, length, get_or, drop, eqb}
 use Rattle.std.proofs.Common.{sym, ap, ◌∙◌, subst, inl, inr, arith, add-one}
 use Rattle.std.proofs.Math.Path.{ap₂}
@@ -34,7 +35,6 @@ use Rattle.report_bytes.specs.AnswerMade.{made_refused, made_given}
 use Rattle.report_bytes.specs.ReportInSliceLaws.{members_held, members_agree, held_report}
 use Rattle.trail_search.specs.TrailLayout.{apart_at, TrailHeld, BirthsHeld, Followable}
 use Rattle.trail_search.specs.FollowedTrail.{Trailed}
-use Rattle.answers.specs.declared.Answer.TheVariants.{Report, Refused}
 use Rattle.answers.specs.Returned.{is_same, returned_of, returned}
 use Rattle.verdicts.specs.Verdicts.{verdict_on}
 use Rattle.two_starts.specs.TwoStarts.{StartsHeld, starts_ready}
@@ -236,15 +236,15 @@ module _ {v : List ℕ} {n m : ℕ} {w : List ℕ} {r count : ℕ} (R : Refined 
         ∙ verdict_is sheet set (configuration p) (configuration q)
 
   -- the answer slice is shorter than the report
-  pub made_short : length before < size → ReportMade v before n m p q x before (Refused short_answer size)
+  pub made_short : length before < size → ReportMade v before n m p q x before (refusal short_answer size)
   made_short h =
-      subst (λ (z : ℕ). ReportMade v before n m p q x before (Refused short_answer z)) (sym es)
+      subst (λ (z : ℕ). ReportMade v before n m p q x before (refusal short_answer z)) (sym es)
       (made_refused report_bytes returned made Held (report_outside R T N) (held_bytes x n k) bytes_are before (omega (arith, es)))
 
   -- the report is written into the front of the answer slice
   pub made_reported : size ≤ length before → (apart : ℕ) → apart ≡ apart_at w (r + 1) i j → (after : List ℕ)
       → after ≡ held_bytes x n k ++ drop (length (held_bytes x n k)) before
-      → ReportMade v before n m p q x after (Report (verdict_on apart (r + 1) i j size))
+      → ReportMade v before n m p q x after (reported (verdict_on apart (r + 1) i j size))
   made_reported h apart e after f =
       made_given report_bytes returned made Held (report_outside R T N) (held_bytes x n k) bytes_are before (omega (arith, es)) f
-      (λ sheet set S. ap Report (verdict_found sheet set S apart e))
+      (λ sheet set S. ap reported (verdict_found sheet set S apart e))

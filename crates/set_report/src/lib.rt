@@ -1,10 +1,12 @@
 // The report on a set that stands in the work slice: rounds, verdict, trail and answer bytes.
 #![tactic(auto)]
 
+ghost use Rattle.answers.specs.OutcomeOf.{outcome_of};
 ghost use Rattle.two_starts.specs.TwoStarts.{StartsReady};
 ghost use Rattle.set_report.specs.ReportMade.{ReportMade};
 
-use answers::Answer;
+use answers::Reported;
+use refusals::{Refusal, Refused};
 use sheet_types::Configuration;
 use verdicts::verdict_on;
 
@@ -17,9 +19,9 @@ pub fn report_set(
     m: usize,
     p: Configuration,
     q: Configuration,
-) -> Answer
+) -> Result<Reported, Refused>
     requires { StartsReady work.old n m p q }
-    ensures { ReportMade work.old answer.old n m p q work.new answer.new result }
+    ensures { ReportMade work.old answer.old n m p q work.new answer.new (outcome_of result) }
 {
     let rounds = class_rounds::refine(work, n, m);
     let last = rounds.round + 1;
@@ -30,8 +32,8 @@ pub fn report_set(
     separations::number_classes(work, n);
     let length = report_bytes::report_length(work, n, steps);
     if answer.len() < length {
-        return Answer::Refused(refusals::SHORT_ANSWER, length);
+        return Err(Refusal::ShortAnswer.at(length));
     }
     report_bytes::put_report(work, n, steps, answer);
-    Answer::Report(verdict_on(apart, last, left, right, length))
+    Ok(verdict_on(apart, last, left, right, length))
 }

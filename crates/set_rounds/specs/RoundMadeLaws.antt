@@ -1,5 +1,6 @@
 -- From the rounds to the answer: the round that was reached has the classes of round k, it is the result's exactly where round k equals its
 -- successor, and the bytes and numbers are document 02's.
+use Rattle.report_bytes.specs.Outcome.{Outcome, refusal, reported}
 use Rattle.std.specs.Prelude.{◌≡◌, refl, Bool, true, false, ℕ, suc, ◌≤◌, ◌<◌, length, eqb}
 use Rattle.std.proofs.Math.Path.{sym, ap₂}
 use Rattle.std.proofs.Common.{ap, ◌∙◌, subst, arith}
@@ -34,7 +35,7 @@ use Rattle.verdicts.specs.Verdicts.{verdict_in}
 use Rattle.two_starts.specs.TwoStarts.{StartsHeld, starts_ready}
 use Rattle.after_rounds.specs.AfterRounds.{Verdict, equals_next, after_on, after_bytes}
 use Rattle.after_rounds.specs.AfterRoundsRead.{verdict_returned, afters_returned}
-use Rattle.after_rounds.specs.declared.RoundsAnswer.TheVariants.{After, Refused}
+use Rattle.after_rounds.specs.declared.Reached.{Reached}
 use Rattle.set_rounds.specs.RoundMade.{RoundMade}
 
 -- ---- w after at most k rounds, x with the classes of the round that was reached
@@ -135,9 +136,9 @@ module _ {v : List ℕ} {n m : ℕ} {w : List ℕ} {k r count : ℕ} {last : Boo
     Held sheet set = StartsHeld sheet set v n m (configuration p) (configuration q)
 
     -- the answer slice is too short
-    pub round_refused : length before < size → RoundMade k v before n m p q x before (Refused short_answer size)
+    pub round_refused : length before < size → RoundMade k v before n m p q x before (refusal short_answer size)
     round_refused h =
-        subst (λ (z : ℕ). RoundMade k v before n m p q x before (Refused short_answer z)) (sym es)
+        subst (λ (z : ℕ). RoundMade k v before n m p q x before (refusal short_answer z)) (sym es)
         (made_refused after_bytes afters_returned (λ sheet set. after_on sheet set k (configuration p) (configuration q)) Held round_outside
         (members_part x n) (λ sheet set S. round_bytes S) before (omega (arith, es)))
 
@@ -145,7 +146,7 @@ module _ {v : List ℕ} {n m : ℕ} {w : List ℕ} {k r count : ℕ} {last : Boo
     pub round_given : size ≤ length before → {after : List ℕ} {end : ℕ} → Stored before 0 (members_part x n) after end
         → {left right : ℕ} → left ≡ class_held x n (configuration p) → right ≡ class_held x n (configuration q)
         → RoundMade k v before n m p q x after
-        (After (record { verdict = verdict_returned (verdict_in (eqb left right) last); classes = count; members = n; length = size }))
+        (reported (record { verdict = verdict_returned (verdict_in (eqb left right) last); classes = count; members = n; length = size }))
     round_given h s el er =
         made_given after_bytes afters_returned (λ sheet set. after_on sheet set k (configuration p) (configuration q)) Held round_outside
         (members_part x n) (λ sheet set S. round_bytes S) before (omega (arith, es)) (stored_front s (omega (arith, es)))
@@ -153,8 +154,8 @@ module _ {v : List ℕ} {n m : ℕ} {w : List ℕ} {k r count : ℕ} {last : Boo
         alike (ap₂ (λ (a b : ℕ). verdict_in (eqb a b) last) el er ∙ round_verdict S) (round_total S) (round_size S) (es ∙ ap length (round_bytes S)))
       where
         alike : {a b : Verdict} {c d i j s t : ℕ} → a ≡ b → c ≡ d → i ≡ j → s ≡ t
-            → After (record { verdict = verdict_returned a; classes = c; members = i; length = s })
-            ≡ After (record { verdict = verdict_returned b; classes = d; members = j; length = t })
+            → ◌≡◌ {A = Outcome Reached} (reported (record { verdict = verdict_returned a; classes = c; members = i; length = s }))
+            (reported (record { verdict = verdict_returned b; classes = d; members = j; length = t }))
         alike {a} {b} {c} {d} {i} {j} {s} {t} e f g h =
-            ap₂ (λ (v : Verdict) (x : ℕ). After (record { verdict = verdict_returned v; classes = x; members = i; length = s })) e f
-            ∙ ap₂ (λ (x y : ℕ). After (record { verdict = verdict_returned b; classes = d; members = x; length = y })) g h
+            ap₂ (λ (v : Verdict) (x : ℕ). reported (record { verdict = verdict_returned v; classes = x; members = i; length = s })) e f
+            ∙ ap₂ (λ (x y : ℕ). reported (record { verdict = verdict_returned b; classes = d; members = x; length = y })) g h

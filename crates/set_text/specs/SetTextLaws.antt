@@ -1,6 +1,6 @@
 -- Laws of the checksum: nothing mixed in yet, and one more.
 use Rattle.std.specs.Prelude.{◌≡◌, refl, List, ℕ, ◌+◌, get_or}
-use Rattle.std.proofs.Common.{sym, add-one}
+use Rattle.std.proofs.Common.{add-one}
 use Rattle.set_text.specs.SetText.{mixed_of, mix_all, mix_moves, mix_members}
 
 -- no number

@@ -12,14 +12,14 @@ use work_layout::{MEMBERS, MOVES, SPANS};
 fn mixed(sum: u32, x: u32) -> u32
     ensures { result ≡ mixed_of sum x }
 {
-    ((sum as u64 * 31 + x as u64) % 4294967296) as u32
+    sum.wrapping_mul(31).wrapping_add(x)
 }
 
 // The number at a place, 0 beyond the slice.
 fn number_at(work: &[u32], i: usize) -> u32
     ensures { result ≡ get_or work.now i 0 }
 {
-    if i < work.len() { work[i] } else { 0 }
+    work.get(i).copied().unwrap_or(0)
 }
 
 // k numbers from a place on mixed into a checksum.
@@ -28,10 +28,8 @@ fn mix_numbers(work: &[u32], from: usize, k: usize, sum: u32) -> u32
     ensures { result ≡ mix_all work.now from k sum }
 {
     let mut s = sum;
-    let mut i: usize = 0;
-    while i < k {
+    for i in 0..k {
         s = mixed(s, number_at(work, from + i));
-        i += 1;
     }
     s
 }
@@ -57,28 +55,20 @@ pub fn checksum(work: &[u32], n: usize) -> u32
     ensures { result ≡ checksum_of work.now n }
 {
     let mut s = mix_numbers(work, MEMBERS, 3 * n, 0);
-    let mut i: usize = 0;
-    while i < n {
+    for i in 0..n {
         s = mix_moves(work, i, s);
-        i += 1;
     }
     s
 }
-
-// What every line has room in.
-const LINE_ROOM: usize = 128;
 
 // The line of a set that is whole: its members and moves, counted, and a checksum. A slice without room is left as it is, and
 // the length is then 0.
 pub fn set_line(members: usize, moves: usize, sum: u32, out: &mut [u8]) -> usize
     ensures { Written (line whole_word (members ∷ moves ∷ sum ∷ [])) out.old out.new result }
 {
-    if out.len() < LINE_ROOM {
-        return 0;
-    }
-    let a = text::put_text(out, 0, b"WHOLE");
-    let b = text::put_field(out, a, members as u64);
-    let c = text::put_field(out, b, moves as u64);
-    let d = text::put_field(out, c, sum as u64);
-    text::put_end(out, d)
+    text::number_line(
+        out,
+        b"WHOLE",
+        &[members as u64, moves as u64, u64::from(sum)],
+    )
 }

@@ -1,92 +1,58 @@
-// The whole sheet, and the choice of two starts. For every byte slice: the sheet, or the number and place of the one refusal.
+// The whole sheet, and the choice of two starts. For every byte slice: the sheet, or the one refusal and its place.
 #![tactic(auto)]
 
-ghost use Rattle.std.specs.Prelude.{◌≡◌};
+ghost use Rattle.std.specs.Prelude.{length};
 ghost use Rattle.sheet_types.specs.Reading.{read_sheet, read_choice};
-ghost use Rattle.sheet_reader.specs.SheetFound.{SheetFound, unread};
+ghost use Rattle.sheet_reader.specs.SheetFound.{SheetFound};
 
-use sheet_types::{Configuration, NodesRead, RulesRead, Section, Sheet, SheetRead, TABLE_END};
-
-// This answer with an empty sheet beside it.
-fn no_sheet(answer: Section) -> SheetRead
-    ensures { result ≡ unread answer }
-{
-    SheetRead {
-        answer,
-        sheet: Sheet {
-            facts: 0,
-            rule_count: 0,
-            node_count: 0,
-            start_count: 0,
-            rules: [0; 64],
-            table: [0; TABLE_END],
-            starts: [Configuration {
-                store: 0,
-                count: 0,
-                threads: [0; 8],
-            }; 16],
-        },
-    }
-}
+use refusals::{Refusal, Refused};
+use sheet_types::{Configuration, Sheet};
 
 // The sheet that the bytes are, or the first refusal.
-pub fn read_sheet(s: &[u8]) -> SheetRead
-    ensures { SheetFound (read_sheet s.now) result }
+pub fn read_sheet(s: &[u8]) -> Result<Sheet, Refused>
+    ensures { SheetFound (length s.now) (read_sheet s.now) result }
 {
-    let f = sheet_fields::facts_at(s, 0);
-    let Section::Got(facts, p) = f else {
-        return no_sheet(f);
-    };
-    let x = rule_reader::rules_at(s, facts, p);
-    let g = x.answer;
-    let Section::Got(rule_count, q) = g else {
-        return no_sheet(g);
-    };
-    let rules = x.rules;
-    let y = node_reader::nodes_at(s, facts, &rules, rule_count, q);
-    let h = y.answer;
-    let Section::Got(node_count, t) = h else {
-        return no_sheet(h);
-    };
-    let table = y.table;
-    let z = start_reader::starts_at(s, facts, &rules, rule_count, &table, node_count, t);
-    let k = z.answer;
-    let Section::Got(start_count, end) = k else {
-        return no_sheet(k);
-    };
-    if end < s.len() {
-        return no_sheet(Section::Refused(refusals::BYTES_LEFT, end));
+    let facts = sheet_fields::facts_at(s, 0)?;
+    let mut rules = [0u16; 64];
+    let rule_count = rule_reader::rules_at(s, facts.value, facts.next, &mut rules)?;
+    let nodes = node_reader::nodes_at(s, facts.value, &rules, rule_count.value, rule_count.next)?;
+    let table = nodes.table;
+    let mut starts = [Configuration::EMPTY; 16];
+    let start_count = start_reader::starts_at(
+        s,
+        facts.value,
+        &rules,
+        rule_count.value,
+        &table,
+        nodes.count,
+        nodes.next,
+        &mut starts,
+    )?;
+    if start_count.next < s.len() {
+        return Err(Refusal::BytesLeft.at(start_count.next));
     }
-    let starts = z.starts;
-    SheetRead {
-        answer: Section::Got(start_count, end),
-        sheet: Sheet {
-            facts,
-            rule_count,
-            node_count,
-            start_count,
-            rules,
-            table,
-            starts,
-        },
-    }
+    Ok(Sheet {
+        facts: facts.value,
+        rule_count: rule_count.value,
+        node_count: nodes.count,
+        start_count: start_count.value,
+        rules,
+        table,
+        starts,
+    })
 }
 
 // The sheet with a left and a right start chosen on it, or the first refusal.
-pub fn read_choice(s: &[u8], left: usize, right: usize) -> SheetRead
-    ensures { SheetFound (read_choice s.now left right) result }
+pub fn read_choice(s: &[u8], left: usize, right: usize) -> Result<Sheet, Refused>
+    ensures { SheetFound (length s.now) (read_choice s.now left right) result }
 {
-    let r = read_sheet(s);
-    let answer = r.answer;
-    let Section::Got(count, _) = answer else {
-        return r;
-    };
-    let starts = count as usize;
+    let sheet = read_sheet(s)?;
+    let starts = usize::from(sheet.start_count);
     if starts <= left {
-        return no_sheet(Section::Refused(refusals::ABSENT_START, 0));
+        return Err(Refusal::AbsentStart.at(0));
     }
     if starts <= right {
-        return no_sheet(Section::Refused(refusals::ABSENT_START, 1));
+        return Err(Refusal::AbsentStart.at(1));
     }
-    r
+    Ok(sheet)
 }

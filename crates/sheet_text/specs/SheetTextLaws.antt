@@ -1,16 +1,17 @@
 -- What the call returned and wrote is printed as its outcome.
+use Rattle.answers.specs.Outcome.{Outcome}
 use Rattle.std.specs.Prelude.{◌≡◌, refl, List, ℕ, length}
 use Rattle.std.proofs.Common.{sym, ap₂, subst}
 use Rattle.work_layout.specs.CallLimits.{limits, work_length, report_room}
 use Rattle.work_layout.specs.Report.{Compares}
 use Rattle.answers.specs.Call.{compare}
 use Rattle.compare_call.specs.Compared.{Compared}
-use Rattle.answers.specs.declared.Answer.{Answer}
+use Rattle.answers.specs.declared.Reported.{Reported}
 use Rattle.outcome_text.specs.OutcomeText.{OutcomeWritten}
 use Rattle.outcome_text.specs.OutcomeTextLaws.{call_answered}
 use Rattle.sheet_text.specs.SheetText.{SheetWritten}
 
-pub sheet_written : (bytes : List ℕ) {v before w answer : List ℕ} {r : Answer} {out after : List ℕ} {k : ℕ}
+pub sheet_written : (bytes : List ℕ) {v before w answer : List ℕ} {r : Outcome Reported} {out after : List ℕ} {k : ℕ}
     → work_length ≡ length v → report_room limits ≡ length before
     → Compared (compare bytes 0 1 (length v) (length before)) v before w answer r → OutcomeWritten r answer out after k
     → SheetWritten bytes out after k

@@ -18,8 +18,8 @@ pub use Rattle.packing.specs.Storing
 pub use Rattle.packing.specs.Tabulate
 pub use Rattle.packing.specs.TestLaws
 pub use Rattle.sheet_reading.specs.WellFormed
+pub mod KindBytes
 pub mod NodeTable
 pub mod NodeTableLaws
 pub mod HeldSheet
-pub mod SectionLaws
 pub mod AddedStore

@@ -1,6 +1,6 @@
 -- Laws of the table of nodes: what is read from a column, and what bytes stored in the table change.
 use Rattle.std.specs.Prelude.{◌≡◌, refl, ◌⊎◌, List, [], ◌∷◌, ℕ, suc, ◌+◌, ◌*◌, ◌≤◌, ◌<◌, get_or, set, take, drop}
-use Rattle.std.proofs.Common.{sym, ap, ap₂, ◌∙◌, inl, inr, arith, get_or-take, get_or-drop, drop-drop}
+use Rattle.std.proofs.Common.{ap, ap₂, ◌∙◌, inl, inr, arith, get_or-take, get_or-drop, drop-drop}
 use Rattle.std.proofs.lemmas.List.Edits.{sets}
 use Rattle.std.proofs.Math.Seq.{take-set-lt}
 use Rattle.std.proofs.lemmas.List.{drop-set-add}

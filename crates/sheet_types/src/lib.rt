@@ -1,21 +1,47 @@
 // How a sheet that was read is held: types, the limits of a sheet, and a configuration as three numbers and back.
 #![tactic(auto)]
 
-ghost use Rattle.std.specs.Prelude.{◌≡◌, ◌≤◌, ◌<◌, length, get_or};
+ghost use Rattle.std.specs.Prelude.{◌≡◌, ◌≤◌, ◌<◌, length, get_or, nat_eq};
 ghost use Rattle.std.specs.Int.Bits.{bit_or};
 ghost use Rattle.sheet_reading.specs.SheetLimits.{max_nodes};
 ghost use Rattle.packing.specs.Packing.{stands_for, PackedIn};
+ghost use Rattle.sheet_types.specs.KindBytes.{kind_byte};
 ghost use Rattle.sheet_types.specs.HeldSheet.{configuration};
 ghost use Rattle.sheet_types.specs.NodeTable.{nodes_of, opened_of, movables_of};
 ghost use Rattle.sheet_types.specs.AddedStore.{AddedTo};
 
 use packing::Numbers;
 
-// What reading a field or a section gives: a value and the place after it, or the refusal's number and place.
+// What reading a field or a section gives: a value and the place after it.
 #[derive(Clone, Copy)]
-pub enum Section {
-    Got(u16, usize),
-    Refused(u8, usize),
+pub struct Field {
+    pub value: u16,
+    pub next: usize,
+}
+
+// What a node is.
+#[derive(Clone, Copy, PartialEq, Eq, Debug)]
+pub enum Kind {
+    Stop,
+    Tell,
+    Ask,
+    Both,
+    Either,
+}
+
+// The kind byte.
+impl From<Kind> for u8 {
+    ghost from_gives = { λ k n. n ≡ kind_byte k };
+
+    fn from(kind: Kind) -> u8 {
+        match kind {
+            Kind::Stop => 0,
+            Kind::Tell => 1,
+            Kind::Ask => 2,
+            Kind::Both => 3,
+            Kind::Either => 4,
+        }
+    }
 }
 
 // One store and at most eight threads, in ascending order.
@@ -27,17 +53,25 @@ pub struct Configuration {
 }
 
 impl Configuration {
+    // Store 0 and no threads.
+    pub const EMPTY: Configuration = Configuration {
+        store: 0,
+        count: 0,
+        threads: [0; 8],
+    };
+
     // The three numbers that stand for it.
     pub fn numbers(self) -> Numbers
         requires { self.count ≤ 8 }
         ensures { PackedIn result × (stands_for result ≡ configuration self) }
     {
         let threads = self.threads;
-        let count = self.count as usize;
+        let count = usize::from(self.count);
         packing::numbers_of(self.store, count, &threads)
     }
 
     // A constraint added: the configuration with the joined store, closed by the table of closures.
+    #[tactic(auto, using(crate::specs::AddedStore::joined_added))]
     pub fn add(mut self, table: &[u32], b: u16) -> Configuration
         requires { bit_or b self.store < length table.now }
         ensures { AddedTo table.now b self result }
@@ -80,6 +114,7 @@ pub const THREADS: usize = 384;
 pub const TABLE_END: usize = 896;
 
 // The kind of node k.
+#[tactic(auto, using(crate::specs::NodeTableLaws::column_at))]
 pub fn kind_in(table: &[u8; TABLE_END], k: usize) -> u8
     requires { k < max_nodes }
     ensures { result ≡ get_or (nodes_of table.now).kinds k 0 }
@@ -88,36 +123,48 @@ pub fn kind_in(table: &[u8; TABLE_END], k: usize) -> u8
 }
 
 // The first field of node k.
+#[tactic(auto, using(crate::specs::NodeTableLaws::first_at_lem))]
 pub fn first_in(table: &[u8; TABLE_END], k: usize) -> u16
     requires { k < max_nodes }
     ensures { result ≡ get_or (nodes_of table.now).firsts k 0 }
 {
-    small_numbers::wide_u16(table[FIRST_LOWS + k])
-        + 256 * small_numbers::wide_u16(table[FIRST_HIGHS + k])
+    u16::from(table[FIRST_LOWS + k]) + 256 * u16::from(table[FIRST_HIGHS + k])
 }
 
 // The second field of node k.
+#[tactic(auto, using(crate::specs::NodeTableLaws::column_at))]
 pub fn second_in(table: &[u8; TABLE_END], k: usize) -> usize
     requires { k < max_nodes }
     ensures { (result ≡ get_or (nodes_of table.now).seconds k 0) × (result < 256) }
 {
-    small_numbers::wide(table[SECONDS + k])
+    usize::from(table[SECONDS + k])
 }
 
 // How many threads node k opens to.
+#[tactic(auto, using(crate::specs::NodeTableLaws::column_at))]
 pub fn count_in(table: &[u8; TABLE_END], k: usize) -> usize
     requires { k < max_nodes }
     ensures { (result ≡ get_or (opened_of table.now).counts k 0) × (result < 256) }
 {
-    small_numbers::wide(table[COUNTS + k])
+    usize::from(table[COUNTS + k])
 }
 
 // 1 where node k can move, else 0.
+#[tactic(auto, using(crate::specs::NodeTableLaws::column_at))]
 pub fn movable_in(table: &[u8; TABLE_END], k: usize) -> u8
     requires { k < max_nodes }
     ensures { result ≡ get_or (movables_of table.now) k 0 }
 {
     table[MOVABLES + k]
+}
+
+// Whether node k can move.
+#[tactic(auto, using(crate::specs::NodeTableLaws::column_at))]
+pub fn can_move(table: &[u8; TABLE_END], k: usize) -> bool
+    requires { k < max_nodes }
+    ensures { result ≡ nat_eq (get_or (movables_of table.now) k 0) 1 }
+{
+    table[MOVABLES + k] == 1
 }
 
 // Rule i has its premise at 2 i and its conclusion at 2 i + 1.
@@ -146,48 +193,4 @@ impl Sheet {
     pub const MAX_STARTS: u16 = 16;
 
     pub const MAX_THREADS: u16 = 8;
-}
-
-// The answer of a section whose records stand beside it, since an enum holds no array.
-#[derive(Drop)]
-pub struct RulesRead {
-    pub answer: Section,
-    pub rules: [u16; 64],
-}
-
-#[derive(Drop)]
-pub struct NodeRead {
-    pub answer: Section,
-    pub first: u16,
-    pub second: u16,
-}
-
-#[derive(Drop)]
-pub struct NodesRead {
-    pub answer: Section,
-    pub table: [u8; TABLE_END],
-}
-
-#[derive(Drop)]
-pub struct ThreadsRead {
-    pub answer: Section,
-    pub threads: [u8; 8],
-}
-
-#[derive(Drop)]
-pub struct StartRead {
-    pub answer: Section,
-    pub start: Configuration,
-}
-
-#[derive(Drop)]
-pub struct StartsRead {
-    pub answer: Section,
-    pub starts: [Configuration; 16],
-}
-
-#[derive(Drop)]
-pub struct SheetRead {
-    pub answer: Section,
-    pub sheet: Sheet,
 }

@@ -31,11 +31,9 @@ pub fn put_starts(
     ensures { Stored out.old at (starts_part work.now n starts k) out.new result }
 {
     let mut next = at;
-    let mut i: usize = 0;
-    while i < k {
+    for i in 0..k {
         let class = class_of(work, n, starts[i]);
         next = put_word(out, next, class);
-        i += 1;
     }
     next
 }

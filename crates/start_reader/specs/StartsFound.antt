@@ -1,5 +1,5 @@
 -- The starts of a sheet: what the reader finds, and its loop.
-use Rattle.std.specs.Prelude.{◌≡◌, refl, Bool, true, false, List, [], ◌∷◌, ◌++◌, ℕ, ◌+◌, ◌-◌, ◌≤◌, ◌<◌, length, get_or, set, replicate, eqb}
+use Rattle.std.specs.Prelude.{◌≡◌, refl, Bool, true, false, List, [], ◌∷◌, ◌++◌, Result, Ok, Err, IfOk, ℕ, ◌+◌, ◌-◌, ◌≤◌, ◌<◌, length, get_or, set, replicate, eqb}
 use Rattle.std.proofs.Common.{sym, ap, ◌∙◌, arith, length-set, get_or-set_same, get_or-set_other, ext_get_or, eqb-true}
 use Rattle.std.proofs.lemmas.Bool.{eqb-false}
 use Rattle.sheet_types.specs.Tabulate.{tabulate_none, tabulate_next, tabulate_same, tabulate_length, tabulate_at}
@@ -11,61 +11,57 @@ use Rattle.sheet_types.specs.Sheet as spec
 use Rattle.sheet_types.specs.Reading.{Reading, got, refused, count_at, start_at, records_from}
 use Rattle.sheet_fields.specs.RecordLaws.{records_none, records_refused, records_next}
 use Rattle.sheet_fields.specs.StoredRecords.{read_or, stored_from, stored_none, stored_refused, stored_next}
-use Rattle.sheet_types.specs.HeldSheet.{configuration, no_configuration, starts_in, starts_read, answer_with}
+use Rattle.refusals.specs.Numbers.{number}
+use Rattle.refusals.specs.declared.Refused.{Refused}
+use Rattle.sheet_fields.specs.Answers.{answer_with}
+use Rattle.sheet_types.specs.declared.Field.{Field}
+use Rattle.sheet_types.specs.HeldSheet.{configuration, no_configuration, starts_in}
 use Rattle.sheet_types.specs.NodeTable.{Opened}
-use Rattle.sheet_types.specs.SectionLaws.{refused_with, refused_never}
-use Rattle.sheet_types.specs.declared.Section.TheVariants.{Got, Refused}
 use Rattle.sheet_types.specs.declared.Configuration.{Configuration}
-use Rattle.sheet_types.specs.declared.StartRead.{StartRead}
-use Rattle.sheet_types.specs.declared.StartsRead.{StartsRead}
+use Rattle.start_reader.specs.declared.StartRead.{StartRead}
 use Rattle.start_reader.specs.StartFound.{TableOf, StartFound}
 
 -- each of the first n starts has at most eight threads
 pub record FewThreads (starts : List Configuration) (n : ℕ) : Type 0 where
   pub at : (j : ℕ) → j < n → (get_or starts j no_configuration).count ≤ max_threads
 
-pub record StartsHeld (s : List ℕ) (r : StartsRead) (n next : ℕ) : Type 0 where
-  pub within : next ≤ length s
-  pub some : min_starts ≤ n
-  pub few : n ≤ max_starts
-  pub threads : FewThreads r.starts n
+pub record StartsHeld (s : List ℕ) (starts : List Configuration) (x : Field) : Type 0 where
+  pub within : x.next ≤ length s
+  pub some : min_starts ≤ x.value
+  pub few : x.value ≤ max_starts
+  pub threads : FewThreads starts x.value
 
 -- an array of starts with store 0 and no threads
 abbrev pub no_starts : List Configuration
 no_starts = replicate 16 no_configuration
 
--- that array with n starts stored in it, up to the first that is refused
-abbrev pub stored_starts : ℕ → List Rule → List Node → List ℕ → ℕ → ℕ → List spec.Configuration
-stored_starts facts rules ns s n at = stored_from (start_at facts rules ns s) set n 0 at (starts_in no_starts 16)
+-- an array with n starts stored in it, up to the first that is refused
+abbrev pub stored_starts : List Configuration → ℕ → List Rule → List Node → List ℕ → ℕ → ℕ → List spec.Configuration
+stored_starts before facts rules ns s n at = stored_from (start_at facts rules ns s) set n 0 at (starts_in before 16)
 
--- the same, after the count of starts
+-- the same after the count of starts, with store 0 and no threads after the last that is read
 abbrev pub starts_array : ℕ → List Rule → List Node → List ℕ → ℕ → List spec.Configuration
 starts_array facts rules ns s at =
-    read_or (count_at min_starts max_starts wrong_starts s at) (starts_in no_starts 16) (λ n next. stored_starts facts rules ns s n next)
+    read_or (count_at min_starts max_starts wrong_starts s at) (starts_in no_starts 16) (λ n next. stored_starts no_starts facts rules ns s n next)
 
 -- The starts as they are read and as the array has them, whatever the nodes are whose table they were read with.
 pub record StartsFound (m : List Node → Reading (List spec.Configuration)) (k : List Node → List spec.Configuration) (nodes : ℕ) (o : Opened)
-    (s : List ℕ) (r : StartsRead) : Type 0 where
-  pub reading : (ns : List Node) → TableOf nodes o ns → starts_read r ≡ m ns
-  pub array : (ns : List Node) → TableOf nodes o ns → starts_in r.starts 16 ≡ k ns
-  pub held : (n next : ℕ) → r.answer ≡ Got n next → StartsHeld s r n next
+    (s : List ℕ) (starts : List Configuration) (r : Result Field Refused) : Type 0 where
+  pub reading : (ns : List Node) → TableOf nodes o ns → answer_with (starts_in starts) r ≡ m ns
+  pub array : (ns : List Node) → TableOf nodes o ns → starts_in starts 16 ≡ k ns
+  pub held : IfOk r (StartsHeld s starts)
 
 pub starts_refused : (m : List Node → Reading (List spec.Configuration)) (k : List Node → List spec.Configuration) (nodes : ℕ) (o : Opened)
-    (s : List ℕ) (r : StartsRead) {number place : ℕ} → r.answer ≡ Refused number place
-    → ((ns : List Node) → TableOf nodes o ns → m ns ≡ refused number place)
-    → ((ns : List Node) → TableOf nodes o ns → starts_in r.starts 16 ≡ k ns) → StartsFound m k nodes o s r
-starts_refused m k nodes o s r a e f =
-    record {
-      reading = λ ns of. refused_with (starts_in r.starts) a ∙ sym (e ns of);
-      array = f;
-      held = λ n next g. refused_never a g;
-    }
+    (s : List ℕ) (starts : List Configuration) (e : Refused)
+    → ((ns : List Node) → TableOf nodes o ns → m ns ≡ refused (number e.refusal) e.place)
+    → ((ns : List Node) → TableOf nodes o ns → starts_in starts 16 ≡ k ns) → StartsFound m k nodes o s starts (Err e)
+starts_refused m k nodes o s starts e f h = record { reading = λ ns of. sym (f ns of); array = h; held = tt }
 
 -- what was found, of other names for the reading and the array
 pub starts_as : (m m₂ : List Node → Reading (List spec.Configuration)) (k k₂ : List Node → List spec.Configuration) (nodes : ℕ) (o : Opened)
-    (s : List ℕ) (r : StartsRead) → StartsFound m k nodes o s r → ((ns : List Node) → m₂ ns ≡ m ns) → ((ns : List Node) → k₂ ns ≡ k ns)
-    → StartsFound m₂ k₂ nodes o s r
-starts_as m m₂ k k₂ nodes o s r found e f =
+    (s : List ℕ) (starts : List Configuration) (r : Result Field Refused) → StartsFound m k nodes o s starts r
+    → ((ns : List Node) → m₂ ns ≡ m ns) → ((ns : List Node) → k₂ ns ≡ k ns) → StartsFound m₂ k₂ nodes o s starts r
+starts_as m m₂ k k₂ nodes o s starts r found e f =
     record { reading = λ ns of. found.reading ns of ∙ sym (e ns); array = λ ns of. found.array ns of ∙ sym (f ns); held = found.held }
 
 -- one start stored is one of the array
@@ -110,69 +106,64 @@ abbrev pub start_item : ℕ → List Rule → List Node → List ℕ → List sp
 start_item facts rules ns s read p = start_at facts rules ns s p
 
 -- i starts are read up to p, and what is left to read gives what the whole gives
-pub record StartsSoFar (facts : ℕ) (rules : List Rule) (nodes : ℕ) (o : Opened) (n : ℕ) (s : List ℕ) (at i p : ℕ) (starts : List Configuration) : Type 0 where
+pub record StartsSoFar (facts : ℕ) (rules : List Rule) (nodes : ℕ) (o : Opened) (n : ℕ) (s : List ℕ) (at : ℕ) (before : List Configuration) (i p : ℕ)
+    (starts : List Configuration) : Type 0 where
   pub rest : (ns : List Node) → TableOf nodes o ns
       → records_from (start_item facts rules ns s) (n - i) (starts_in starts i) p ≡ records_from (start_item facts rules ns s) n [] at
   pub array : (ns : List Node) → TableOf nodes o ns
-      → stored_from (start_at facts rules ns s) set (n - i) i p (starts_in starts 16) ≡ stored_starts facts rules ns s n at
+      → stored_from (start_at facts rules ns s) set (n - i) i p (starts_in starts 16) ≡ stored_starts before facts rules ns s n at
   pub threads : FewThreads starts i
 
-module _ (facts : ℕ) (rules : List Rule) (nodes : ℕ) (o : Opened) (n : ℕ) (s : List ℕ) (at : ℕ) where
-  pub starts_none : StartsSoFar facts rules nodes o n s at 0 at no_starts
+module _ (facts : ℕ) (rules : List Rule) (nodes : ℕ) (o : Opened) (n : ℕ) (s : List ℕ) (at : ℕ) (before : List Configuration) where
+  pub starts_none : StartsSoFar facts rules nodes o n s at before 0 at before
   starts_none =
       let z : n - 0 ≡ n = omega arith in
       record {
-        rest = λ ns of. rw (z, tabulate_none (λ j. configuration (get_or no_starts j no_configuration)));
+        rest = λ ns of. rw (z, tabulate_none (λ j. configuration (get_or before j no_configuration)));
         array = λ ns of. rw z;
         threads = record { at = λ j l. absurd (omega arith) };
       }
 
-  module _ (i p : ℕ) (starts : List Configuration) (sofar : StartsSoFar facts rules nodes o n s at i p starts) where
-    module _ (l : i < n) (r : StartRead) (found : StartFound facts rules nodes o s p r) where
-      pub starts_stopped : {number place : ℕ} → r.answer ≡ Refused number place
-          → StartsFound (λ ns. records_from (start_item facts rules ns s) n [] at) (λ ns. stored_starts facts rules ns s n at) nodes o s
-          (record { answer = r.answer; starts = starts })
-      starts_stopped {number} {place} a =
-          starts_refused (λ ns. records_from (start_item facts rules ns s) n [] at) (λ ns. stored_starts facts rules ns s n at) nodes o s
-          (record { answer = r.answer; starts = starts }) a
-          (λ ns of. sym (sofar.rest ns of) ∙ records_refused (start_item facts rules ns s) n i (starts_in starts i) p number place l (here ns of))
-          (λ ns of. sym (stored_refused (start_at facts rules ns s) set n i p (starts_in starts 16) l (here ns of)) ∙ sofar.array ns of)
-        where
-          here : (ns : List Node) → TableOf nodes o ns → start_at facts rules ns s p ≡ refused number place
-          here ns of = sym (found.reading ns of) ∙ refused_with (λ _. configuration r.start) a
+  module _ (i p : ℕ) (starts : List Configuration) (sofar : StartsSoFar facts rules nodes o n s at before i p starts) where
+    pub starts_stopped : (e : Refused) → i < n → StartFound facts rules nodes o s p (Err e)
+        → StartsFound (λ ns. records_from (start_item facts rules ns s) n [] at) (λ ns. stored_starts before facts rules ns s n at) nodes o s starts (Err e)
+    starts_stopped e l found =
+        starts_refused (λ ns. records_from (start_item facts rules ns s) n [] at) (λ ns. stored_starts before facts rules ns s n at) nodes o s starts e
+        (λ ns of. sym (sofar.rest ns of) ∙ records_refused (start_item facts rules ns s) n i (starts_in starts i) p _ _ l (sym (found.reading ns of)))
+        (λ ns of. sym (stored_refused (start_at facts rules ns s) set n i p (starts_in starts 16) l (sym (found.reading ns of))) ∙ sofar.array ns of)
 
-      pub starts_next : {v next : ℕ} → r.answer ≡ Got v next → length starts ≡ 16 → i < 16
-          → StartsSoFar facts rules nodes o n s at (i + 1) next (set starts i r.start) × (next ≤ length s)
-      starts_next {v} {next} a long low = (
-        record {
-          rest = λ ns of.
-              ap (λ (xs : List spec.Configuration). records_from (start_item facts rules ns s) (n - (i + 1)) xs next) (starts_with starts i r.start room)
-              ∙ sym (records_next (start_item facts rules ns s) n i (starts_in starts i) p next (configuration r.start) l (here ns of))
-              ∙ sofar.rest ns of;
-          array = λ ns of.
-              ap (stored_from (start_at facts rules ns s) set (n - (i + 1)) (i + 1) next) (starts_set starts i r.start long low)
-              ∙ sym (stored_next (start_at facts rules ns s) set n i p (starts_in starts 16) (configuration r.start) l (here ns of))
-              ∙ sofar.array ns of;
-          threads = record { at = λ j m. go j m (eqb j i) refl };
-        },
-        (found.held v next a).0,
-      )
-        where
-          room : i < length starts
-          room = omega arith
+    pub starts_next : (r : StartRead) → i < n → StartFound facts rules nodes o s p (Ok r) → length starts ≡ 16 → i < 16
+        → StartsSoFar facts rules nodes o n s at before (i + 1) r.next (set starts i r.start) × (r.next ≤ length s)
+    starts_next r l found long low = (
+      record {
+        rest = λ ns of.
+            ap (λ (xs : List spec.Configuration). records_from (start_item facts rules ns s) (n - (i + 1)) xs r.next) (starts_with starts i r.start room)
+            ∙ sym (records_next (start_item facts rules ns s) n i (starts_in starts i) p r.next (configuration r.start) l (here ns of))
+            ∙ sofar.rest ns of;
+        array = λ ns of.
+            ap (stored_from (start_at facts rules ns s) set (n - (i + 1)) (i + 1) r.next) (starts_set starts i r.start long low)
+            ∙ sym (stored_next (start_at facts rules ns s) set n i p (starts_in starts 16) (configuration r.start) l (here ns of))
+            ∙ sofar.array ns of;
+        threads = record { at = λ j m. go j m (eqb j i) refl };
+      },
+      found.held.0,
+    )
+      where
+        room : i < length starts
+        room = omega arith
 
-          here : (ns : List Node) → TableOf nodes o ns → start_at facts rules ns s p ≡ got (configuration r.start) next
-          here ns of = sym (found.reading ns of) ∙ ap (answer_with (λ _. configuration r.start)) a
+        here : (ns : List Node) → TableOf nodes o ns → start_at facts rules ns s p ≡ got (configuration r.start) r.next
+        here ns of = sym (found.reading ns of)
 
-          go : (j : ℕ) → j < i + 1 → (b : Bool) → eqb j i ≡ b → (get_or (set starts i r.start) j no_configuration).count ≤ max_threads
-          go j m true t = rw (eqb-true j i t, get_or-set_same starts i r.start no_configuration room) (found.held v next a).1
-          go j m false t =
-              let other = eqb-false j i t in
-              rw (get_or-set_other starts i j r.start no_configuration other) (sofar.threads.at j (omega (arith, other)))
+        go : (j : ℕ) → j < i + 1 → (b : Bool) → eqb j i ≡ b → (get_or (set starts i r.start) j no_configuration).count ≤ max_threads
+        go j m true t = rw (eqb-true j i t, get_or-set_same starts i r.start no_configuration room) found.held.1
+        go j m false t =
+            let other = eqb-false j i t in
+            rw (get_or-set_other starts i j r.start no_configuration other) (sofar.threads.at j (omega (arith, other)))
 
     pub starts_end : i ≡ n → min_starts ≤ n → n ≤ max_starts → p ≤ length s
-        → StartsFound (λ ns. records_from (start_item facts rules ns s) n [] at) (λ ns. stored_starts facts rules ns s n at) nodes o s
-        (record { answer = Got n p; starts = starts })
+        → StartsFound (λ ns. records_from (start_item facts rules ns s) n [] at) (λ ns. stored_starts before facts rules ns s n at) nodes o s starts
+        (Ok (record { value = n; next = p }))
     starts_end e some few within =
         record {
           reading = λ ns of.
@@ -180,11 +171,5 @@ module _ (facts : ℕ) (rules : List Rule) (nodes : ℕ) (o : Opened) (n : ℕ) 
               ∙ sym (records_none (start_item facts rules ns s) n i (starts_in starts i) p (omega arith))
               ∙ sofar.rest ns of;
           array = λ ns of. sym (stored_none (start_at facts rules ns s) set n i p (starts_in starts 16) (omega arith)) ∙ sofar.array ns of;
-          held = λ m next g. same m next g;
+          held = record { within = within; some = some; few = few; threads = rw (sym e) sofar.threads };
         }
-      where
-        same : (m next : ℕ) → Got n p ≡ Got m next → StartsHeld s (record { answer = Got n p; starts = starts }) m next
-        same m next g =
-            let x : n ≡ m = cc in
-            let y : p ≡ next = cc in
-            rw (sym x, sym y) (record { within = within; some = some; few = few; threads = rw (sym e) sofar.threads })

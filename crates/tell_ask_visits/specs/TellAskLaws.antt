@@ -1,7 +1,7 @@
 -- Why visiting a tell and an ask is right: what is noted are the moves that the node gives on every sheet with this table, their
 -- targets fit, and an ask whose threads are too many gives a move to a member with too many threads.
-use Rattle.std.specs.Prelude.{◌≡◌, refl, Bool, true, false, not, ℕ, ◌+◌, ◌%◌, ◌^◌, ◌≤◌, ◌<◌, length, get_or, take}
-use Rattle.std.proofs.Common.{sym, ap, ap₂, ◌∙◌, subst, arith, pow_pos, length-take, leb-true, leb-false}
+use Rattle.std.specs.Prelude.{◌≡◌, refl, ℕ, ◌+◌, ◌%◌, ◌^◌, ◌≤◌, ◌<◌, length, get_or, take}
+use Rattle.std.proofs.Common.{sym, ap, ap₂, ◌∙◌, subst, arith, pow_pos, length-take}
 use mathlib.Core.List.Memᴰ
 use mathlib.Core.List.{List, [], ◌∷◌, ◌++◌, map, Memᴰ}
 use Rattle.std.proofs.lemmas.List.{length-map}
@@ -27,8 +27,7 @@ use Rattle.closure_table.specs.ClosureTable.{closure_at}
 use Rattle.move_entry.specs.NumberLists.{numbers_in}
 use Rattle.collected_moves.specs.NumberLaws.{numbers_at_lem}
 use Rattle.threads_beside.specs.declared.NodeBeside as held
-use Rattle.threads_beside.specs.declared.Beside.{Beside}
-use Rattle.threads_beside.specs.ThreadsBeside.{node_beside, PutBeside}
+use Rattle.threads_beside.specs.ThreadsBeside.{node_beside, BesideJoined}
 use Rattle.ask_labels.specs.declared.Labelled.{Labelled}
 use Rattle.ask_labels.specs.AskLabels.{LabelsAre, part}
 use Rattle.ask_labels.specs.LabelShelf.{ShelfRoom, LabelsGiven}
@@ -187,26 +186,19 @@ eight_places ts h = sym (length-map ts (λ (t : ℕ). t)) ∙ h
 pub counted : (ts : List ℕ) (n : ℕ) → length ts ≡ 8 → n ≤ 8 → length (take n ts) ≡ n
 counted ts n h l = simp length-take (omega arith)
 
-module _ {threads : List ℕ} {e : held.NodeBeside} {limit : ℕ} {r : Beside} (h : PutBeside threads e limit r)
-    (o : List ℕ) (q : threads ≡ o) where
-  pub beside_many : length e.threads ≡ 8 → e.count ≤ 8 → r.fits ≡ false → limit < length o + length (node_beside e).threads
-  beside_many l k f =
-      omega (arith, leb-false (e.count + length threads) limit (sym h.fits ∙ f), ap length q, counted e.threads e.count l k)
+pub beside_many : (e : held.NodeBeside) {threads o : List ℕ} {limit : ℕ} → threads ≡ o → limit < e.count + length threads → length e.threads ≡ 8
+    → e.count ≤ 8 → limit < length o + length (node_beside e).threads
+beside_many e {threads} q h l k = omega (arith, h, ap length q, counted e.threads e.count l k)
 
-  pub beside_few : length e.threads ≡ 8 → e.count ≤ 8 → r.fits ≡ true → length o + length (node_beside e).threads ≤ limit
-  beside_few l k f =
-      omega (arith, leb-true (e.count + length threads) limit (sym h.fits ∙ f), ap length q, counted e.threads e.count l k)
+module _ {threads : List ℕ} {e : held.NodeBeside} {limit : ℕ} {o : List ℕ} (q : threads ≡ o) {at : held.NodeBeside}
+    (h : BesideJoined threads e limit at) where
+  pub beside_few : length e.threads ≡ 8 → e.count ≤ 8 → length o + length (node_beside e).threads ≤ limit
+  beside_few l k = omega (arith, h.fits, ap length q, counted e.threads e.count l k)
 
-  pub beside_sorted : NotFalling (node_beside e).threads → r.fits ≡ true
-      → (node_beside r.at).threads ≡ sort_up (o ++ (node_beside e).threads)
-  beside_sorted n f =
-      ap (λ (x : NodeBeside). x.threads) (h.joined f) ∙ insert_all_sorts (node_beside e).threads threads n
+  pub beside_sorted : NotFalling (node_beside e).threads → (node_beside at).threads ≡ sort_up (o ++ (node_beside e).threads)
+  beside_sorted n =
+      ap (λ (x : NodeBeside). x.threads) h.joined ∙ insert_all_sorts (node_beside e).threads threads n
       ∙ ap (λ (l : List ℕ). sort_up (l ++ (node_beside e).threads)) q
-
-pub beside_count : {threads : List ℕ} {e : held.NodeBeside} {limit : ℕ} {r : Beside} → PutBeside threads e limit r → limit ≤ 8
-    → r.fits ≡ true → r.at.count ≤ 8
-beside_count {threads} {e} {limit} h l f =
-    omega (arith, leb-true (e.count + length threads) limit (sym h.fits ∙ f), h.count f)
 
 -- ---- the shelf
 -- the labels that were asked for stand where they should

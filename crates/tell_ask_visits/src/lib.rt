@@ -10,14 +10,13 @@ ghost use Rattle.walk_state.specs.WalkState.{VisitFits, Walking, TurnedAs};
 ghost use Rattle.tell_ask_visits.specs.TellAskMoves.{AskTurned};
 ghost use Rattle.sheet_types.specs.SheetLimits.{max_nodes};
 
-use collected_moves::Noted;
 use label_moves::note_labels;
 use sheet_types::{Configuration, TABLE_END};
 use threads_beside::NodeBeside;
-use walk_state::{Basis, Walk, Walked};
+use walk_state::{Basis, Walk};
 
 // A tell of c: the thread is gone, the store joined with c.
-pub fn visit_tell(work: &mut [u32], c: u16, b: Basis, e: NodeBeside, s: Walk) -> Walked
+pub fn visit_tell(work: &mut [u32], c: u16, b: Basis, e: NodeBeside, s: Walk) -> Option<Walk>
     requires { Walking rank_of work.old b s × VisitFits b (node_beside e) × (e.count ≤ 8) × (c < 2 ^ b.facts) }
     ensures { TurnedAs rank_of (tell c) b work.old s (node_beside e) work.new result }
 {
@@ -31,12 +30,9 @@ pub fn visit_tell(work: &mut [u32], c: u16, b: Basis, e: NodeBeside, s: Walk) ->
         threads,
     };
     let x = target.numbers();
-    let r = move_entry::note(work, b.first, s.running, b.caps, least, x);
-    let Noted::On(running) = r else {
-        return Walked::Over;
-    };
+    let running = move_entry::note(work, b.first, s.running, b.caps, least, x)?;
     let shelf = s.shelf;
-    Walked::On(Walk {
+    Some(Walk {
         running,
         shelf,
         marks: s.marks,
@@ -53,24 +49,17 @@ pub fn visit_ask(
     b: Basis,
     e: NodeBeside,
     s: Walk,
-) -> Walked
+) -> Option<Walk>
     requires { Walking rank_of work.old b s × VisitFits b (node_beside e) × (e.count ≤ 8) × (c < 2 ^ b.facts) × (q < b.nodes)
         × (b.nodes ≤ max_nodes) × (get_or (opened_of table.now).counts q 0 ≤ 8) }
     ensures { AskTurned rank_of table.now c q b work.old s (node_beside e) work.new result }
 {
     let l = b.caps;
-    let joined = threads_beside::put_beside(table, e, q, l.threads);
-    if !joined.fits {
-        return Walked::Over;
-    }
-    let at = joined.at;
+    let at = threads_beside::put_beside(table, e, q, l.threads)?;
     let found = ask_labels::labels_at(work, b.facts, b.store, c, s.shelf);
-    let r = note_labels(work, found.first, found.end, b, at, s.running);
-    let Noted::On(running) = r else {
-        return Walked::Over;
-    };
+    let running = note_labels(work, found.first, found.end, b, at, s.running)?;
     let shelf = found.shelf;
-    Walked::On(Walk {
+    Some(Walk {
         running,
         shelf,
         marks: s.marks,

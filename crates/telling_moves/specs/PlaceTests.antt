@@ -1,5 +1,5 @@
 -- Tests by places: some place below a count passes, and the first one that does.
-use Rattle.std.specs.Prelude.{◌≡◌, refl, Bool, true, false, cond, ◌||◌, List, [], ◌∷◌, ℕ, zero, suc, ◌+◌, ◌<◌, length, get_or, eqb}
+use Rattle.std.specs.Prelude.{◌≡◌, refl, Option, Some, None, Bool, true, false, cond, ◌||◌, List, [], ◌∷◌, ℕ, zero, suc, ◌+◌, ◌<◌, length, get_or, eqb}
 use Rattle.std.proofs.Common.{sym, ap, ◌∙◌, subst, arith, add-one, eqb-true}
 use Rattle.std.proofs.lemmas.Bool.{eqb-false}
 use Rattle.work_layout.specs.TestLaws.{true_false, or_left, or_right, or_fails, Tested, tested, passes, fails}
@@ -62,6 +62,11 @@ any_places test xs d f n e h = go (tested (some_below f n))
 -- r is the first place below n that passes, n where none does
 abbrev pub First : (ℕ → Bool) → ℕ → ℕ → Type 0
 First f n r = FirstPlace (λ j. f j ≡ false) (λ j. f j ≡ true) 0 n r
+
+-- r is the first place below n that passes, none where none does
+abbrev pub FirstFound : (ℕ → Bool) → ℕ → Option ℕ → Type 0
+FirstFound f n (Some r) = First f n r × (r < n)
+FirstFound f n None = First f n n
 
 -- no place before j passes
 abbrev pub NoneBefore : (ℕ → Bool) → ℕ → Type 0

@@ -3,7 +3,7 @@
 
 ghost use Rattle.std.specs.Prelude.{◌≡◌, ◌%◌, ◌<◌};
 ghost use Rattle.work_layout.specs.SetLayout.{first_move, move_total};
-ghost use Rattle.telling_moves.specs.PlaceTests.{First};
+ghost use Rattle.telling_moves.specs.PlaceTests.{FirstFound};
 ghost use Rattle.telling_moves.specs.TrailLayout.{Followable, MovesOfOne, MoveOfOne, PairFits};
 ghost use Rattle.telling_moves.specs.TrailPlaces.{dominates_at, redundant_at, answers_at, answered_at, tells_at};
 
@@ -28,12 +28,10 @@ fn redundant_in(work: &[u32], n: usize, last: usize, first: usize, j: usize, r: 
     ensures { result ≡ redundant_at work.now n last r first j }
 {
     let y = work[MOVES + first + j];
-    let mut k: usize = 0;
-    while k < j {
+    for k in 0..j {
         if dominates_in(work, n, last, work[MOVES + first + k], y, r) {
             return true;
         }
-        k += 1;
     }
     false
 }
@@ -56,12 +54,10 @@ fn answered_in(work: &[u32], last: usize, q: usize, y: u32, r: usize) -> bool
 {
     let first = work_layout::first_move(work, q);
     let total = work_layout::move_total(work, q);
-    let mut k: usize = 0;
-    while k < total {
+    for k in 0..total {
         if answers_in(work, last, work[MOVES + first + k], y, r) {
             return true;
         }
-        k += 1;
     }
     false
 }
@@ -77,19 +73,17 @@ fn tells(work: &[u32], n: usize, last: usize, first: usize, j: usize, q: usize, 
     !redundant_in(work, n, last, first, j, r)
 }
 
-// The place of the first move of p that tells p from q in round r; the number of its moves where none does.
-pub fn telling(work: &[u32], n: usize, last: usize, p: usize, q: usize, r: usize) -> usize
+// The place of the first move of p that tells p from q in round r; none where no move does.
+pub fn telling(work: &[u32], n: usize, last: usize, p: usize, q: usize, r: usize) -> Option<usize>
     requires { Followable work.now n last × (p < n) × (q < n) }
-    ensures { First (tells_at work.now n last r (first_move work.now p) q) (move_total work.now p) result }
+    ensures { FirstFound (tells_at work.now n last r (first_move work.now p) q) (move_total work.now p) result }
 {
     let first = work_layout::first_move(work, p);
     let total = work_layout::move_total(work, p);
-    let mut j: usize = 0;
-    while j < total {
+    for j in 0..total {
         if tells(work, n, last, first, j, q, r) {
-            return j;
+            return Some(j);
         }
-        j += 1;
     }
-    total
+    None
 }

@@ -1,7 +1,7 @@
 // Lines of output as bytes: words, decimal numbers, spaces and the line feed (document 01, "Known sheets", the program).
 #![tactic(auto)]
 
-ghost use Rattle.std.specs.Prelude.{◌≡◌, List, [], ◌∷◌, ◌+◌, ◌%◌, ◌≤◌, ◌<◌, length};
+ghost use Rattle.std.specs.Prelude.{◌≡◌, List, [], ◌∷◌, ◌+◌, ◌*◌, ◌%◌, ◌≤◌, ◌<◌, length};
 ghost use Rattle.printed_lines.specs.Decimal.{digit_byte, decimal};
 ghost use Rattle.text.specs.Powers.{FirstPlace};
 ghost use Rattle.printed_lines.specs.Lines.{field, line_feed, line, refused_word, read_word};
@@ -18,9 +18,9 @@ fn digit(x: u64) -> u8
 fn first_place(n: u64) -> u64
     ensures { FirstPlace n result }
 {
-    let mut q: u64 = 1;
+    let mut q = 1;
     while n / q >= 10 {
-        q = q * 10;
+        q *= 10;
     }
     q
 }
@@ -34,7 +34,7 @@ pub fn put_number(out: &mut [u8], at: usize, n: u64) -> usize
     out[at] = digit(n / q);
     let mut next = at + 1;
     while q > 1 {
-        q = q / 10;
+        q /= 10;
         out[next] = digit(n / q);
         next += 1;
     }
@@ -46,12 +46,9 @@ pub fn put_text(out: &mut [u8], at: usize, text: &[u8]) -> usize
     requires { at + length text.now ≤ length out.old }
     ensures { Stored out.old at text.now out.new result }
 {
-    let mut i: usize = 0;
-    while i < text.len() {
-        out[at + i] = text[i];
-        i += 1;
-    }
-    at + i
+    let next = at + text.len();
+    out[at..next].copy_from_slice(text);
+    next
 }
 
 // Stores a space and a number.
@@ -72,41 +69,51 @@ pub fn put_end(out: &mut [u8], at: usize) -> usize
     at + 1
 }
 
+// Stores the line of a word and numbers.
+pub fn put_line(out: &mut [u8], at: usize, word: &[u8], numbers: &[u64]) -> usize
+    requires { at + length word.now + 21 * length numbers.now < length out.old }
+    ensures { Stored out.old at (line word.now numbers.now) out.new result × (result ≤ at + length word.now + 21 * length numbers.now + 1) }
+{
+    let mut next = put_text(out, at, word);
+    for n in numbers {
+        next = put_field(out, next, *n);
+    }
+    put_end(out, next)
+}
+
 // What every line has room in.
 const LINE_ROOM: usize = 128;
 
-// The line of a word and two numbers. A slice without room is left as it is, and the length is then 0.
-pub fn two_number_line(out: &mut [u8], word: &[u8], x: u64, y: u64) -> usize
-    requires { length word.now ≤ 64 }
-    ensures { Written (line word.now (x ∷ y ∷ [])) out.old out.new result }
+// The line of a word and numbers alone. A slice without room is left as it is, and the length is then 0.
+pub fn number_line(out: &mut [u8], word: &[u8], numbers: &[u64]) -> usize
+    requires { length word.now + 21 * length numbers.now < 128 }
+    ensures { Written (line word.now numbers.now) out.old out.new result }
 {
     if out.len() < LINE_ROOM {
         return 0;
     }
-    let a = put_text(out, 0, word);
-    let b = put_field(out, a, x);
-    let c = put_field(out, b, y);
-    put_end(out, c)
+    put_line(out, 0, word, numbers)
 }
 
 // The line of a refusal: its number and its place.
 pub fn refused_line(out: &mut [u8], number: u8, place: usize) -> usize
     ensures { Written (line refused_word (number ∷ place ∷ [])) out.old out.new result }
 {
-    two_number_line(out, b"REFUSED", number as u64, place as u64)
+    number_line(out, b"REFUSED", &[u64::from(number), place as u64])
 }
 
 // The line of a sheet that was read: its facts, rules, nodes and starts, counted.
 pub fn read_line(out: &mut [u8], facts: u16, rules: u16, nodes: u16, starts: u16) -> usize
     ensures { Written (line read_word (facts ∷ rules ∷ nodes ∷ starts ∷ [])) out.old out.new result }
 {
-    if out.len() < LINE_ROOM {
-        return 0;
-    }
-    let a = put_text(out, 0, b"READ");
-    let b = put_field(out, a, facts as u64);
-    let c = put_field(out, b, rules as u64);
-    let d = put_field(out, c, nodes as u64);
-    let e = put_field(out, d, starts as u64);
-    put_end(out, e)
+    number_line(
+        out,
+        b"READ",
+        &[
+            u64::from(facts),
+            u64::from(rules),
+            u64::from(nodes),
+            u64::from(starts),
+        ],
+    )
 }

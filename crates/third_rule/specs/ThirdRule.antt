@@ -11,8 +11,7 @@ use Rattle.work_layout.specs.Promise.{PassesLimit}
 use Rattle.sheet_types.specs.ClosureTable.{Closures}
 use Rattle.walk_state.specs.AskLabels.{TableOf}
 use Rattle.collected_moves.specs.declared.Running.{Running}
-use Rattle.collected_moves.specs.declared.Noted.{Noted}
-use Rattle.collected_moves.specs.declared.Noted.TheVariants.{On, Over}
+use Rattle.std.specs.Prelude.{Option, Some, None}
 use Rattle.collected_moves.specs.CollectedMoves.{Collecting, Grown, members_of, moves_of, move_in_lem, move_numbers}
 use Rattle.walk_state.specs.SetGrowth.{Growth, Sound, InHand, Gathered}
 use Rattle.walk_state.specs.declared.Basis.{Basis}
@@ -79,9 +78,9 @@ pub record AddedOver (b : Basis) (v : List ℕ) (s : Running) (w : List ℕ) : T
   pub inside : SameOutside members_at (members_at + table_length) v w
 
 -- by the answer
-abbrev pub Added : (Move → ℕ → Type 0) → Basis → List ℕ → Running → List ℕ → Noted → Type 0
-Added P b v s w (On t) = AddedOn P b v s w t
-Added P b v s w Over = AddedOver b v s w
+abbrev pub Added : (Move → ℕ → Type 0) → Basis → List ℕ → Running → List ℕ → Option Running → Type 0
+Added P b v s w (Some t) = AddedOn P b v s w t
+Added P b v s w None = AddedOver b v s w
 
 -- ---- moves and labels
 -- the move at place i, and this label
@@ -117,6 +116,6 @@ pub record AllAddedOn (b : Basis) (v : List ℕ) (s : Running) (w : List ℕ) (t
       → (k m : Move) → Memᴰ k (moves_of w b.first t) → Memᴰ m (moves_of w b.first t)
       → strictly_below k.label m.label ≡ true → Memᴰ (add g.sheet m.label k.target) (members_of w t)
 
-abbrev pub AllAdded : Basis → List ℕ → Running → List ℕ → Noted → Type 0
-AllAdded b v s w (On t) = AllAddedOn b v s w t
-AllAdded b v s w Over = AddedOver b v s w
+abbrev pub AllAdded : Basis → List ℕ → Running → List ℕ → Option Running → Type 0
+AllAdded b v s w (Some t) = AllAddedOn b v s w t
+AllAdded b v s w None = AddedOver b v s w

@@ -11,7 +11,7 @@ use Rattle.collected_moves.specs.TabulateLaws.{mem_tabulate}
 use Rattle.move_entry.specs.Members.{mem_map, map_mem}
 use Rattle.work_layout.specs.Frames.{SameOutside, outside_same, outside_again}
 use Rattle.walk_state.specs.FactSets.{Within}
-use Rattle.member_table.specs.FactSetLaws.{and_within, within_and, within_le}
+use Rattle.member_table.specs.FactSetLaws.{and_within, within_le}
 use Rattle.work_layout.specs.Stores.{Closed, strictly_below, conclusions}
 use Rattle.member_table.specs.StoreLaws.{below_within, within_below, within_join, closure_lt}
 use Rattle.sheet_types.specs.Sheet as spec
@@ -27,8 +27,7 @@ use Rattle.sheet_types.specs.AddedStore.{joined, joined_adds}
 use Rattle.collected_moves.specs.NumberLaws.{numbers_at_lem, numbers_place, numbers_rise}
 use Rattle.member_table.specs.MemberTable.{member_in}
 use Rattle.collected_moves.specs.declared.Running.{Running}
-use Rattle.collected_moves.specs.declared.Noted.{Noted}
-use Rattle.collected_moves.specs.declared.Noted.TheVariants.{On, Over}
+use Rattle.std.specs.Prelude.{Option, Some, None}
 use Rattle.collected_moves.specs.CollectedMoves.{member_part, members_of, move_in_lem, move_numbers, moves_of, EnteredOn, EnteredAs}
 use Rattle.collected_moves.specs.CollectedLaws.{move_same, grown_refl, grown_trans}
 use Rattle.walk_state.specs.SetGrowth.{Growth, InSet, InHand, Gathered}
@@ -171,10 +170,6 @@ module _ {b : Basis} {v : List ℕ} {s : Running} (c : Standing v b s) where
         gathered = λ g h o a. a;
       }
 
-  -- none yet
-  pub added_none : {P : Move → ℕ → Type 0} → ((k : Move) (l : ℕ) → P k l → ⊥) → AddedOn P b v s v s
-  added_none n = record { kept = only_none; added = λ g h o a k l p z. absurd (n k l p) }
-
   module _ {w : List ℕ} {t : Running} (e : OnlyMembers b v s w t) where
     -- the moves are the same moves
     pub move_kept : (i : ℕ) → b.first ≤ i → i < s.moves → move_at w i ≡ move_at v i
@@ -188,17 +183,6 @@ module _ {b : Basis} {v : List ℕ} {s : Running} (c : Standing v b s) where
         let i : Memᴰ y.0 (move_numbers v b.first s.moves) = subst (Memᴰ y.0) e.same_moves.1 y.1 in
         subst (λ (x : Move). Memᴰ x (moves_of v b.first s))
         (sym (y.2 ∙ move_same v w s.members e.grown.members_same y.0 (c.collecting.ids y.0 i))) (map_mem (move_in_lem v) i)
-
-    -- a label that is new stays new, before the same place or an earlier one
-    pub new_label_kept : (i j label : ℕ) → i ≤ j → j ≤ s.moves → NewLabel v b s j label → NewLabel w b t i label
-    new_label_kept i j label h k n =
-        record {
-          place = n.place;
-          in_hand_lem = (n.in_hand_lem.0, omega (arith, n.in_hand_lem.1, e.same_moves.0));
-          label_is = label_kept e.inside n.place (place_in c n.place n.in_hand_lem.1).0 ∙ n.label_is;
-          before = λ x p q z.
-              n.before x p (omega arith) (sym (label_kept e.inside x (place_in c x (omega arith)).0) ∙ z);
-        }
 
     pub only_then : {u : List ℕ} {r : Running} → OnlyMembers b w t u r → OnlyMembers b v s u r
     only_then {u} {r} f =
@@ -233,18 +217,6 @@ module _ {b : Basis} {v : List ℕ} {s : Running} (c : Standing v b s) where
 -- ---- one addition
 module _ (b : Basis) (v : List ℕ) (s : Running) (i label : ℕ) (c : Standing v b s) (low : b.first ≤ i) (high : i < s.moves)
     (n : NewLabel v b s (i + 1) label) where
-  -- a label that does not include the move's own is not above it
-  pub not_inside : (bit_and (label_at v i) label ≡ label_at v i → ⊥) → AddedOn (AtPlace v i label) b v s v s
-  not_inside d =
-      record {
-        kept = only_none c;
-        added = λ g h o a k l p z.
-            let e : strictly_below (label_at v i) label ≡ true =
-            subst (λ (x : ℕ). strictly_below x label ≡ true) (ap (λ (m : Move). m.label) p.move_is)
-            (subst (λ (x : ℕ). strictly_below k.label x ≡ true) p.label_is z) in
-            absurd (d (within_and (below_within (label_at v i) label e).0));
-      }
-
   label_small : label < 2 ^ b.facts
   label_small =
       subst (λ (x : ℕ). x < 2 ^ b.facts) n.label_is
@@ -336,9 +308,9 @@ module _ (b : Basis) (v : List ℕ) (s : Running) (i label : ℕ) (c : Standing 
           }
 
       -- else the target with the label added is entered
-      pub sum_added : (w : List ℕ) (r : Noted) → EnteredAs v b.first s b.caps (configuration (joined v label u)) w r
+      pub sum_added : (w : List ℕ) (r : Option Running) → EnteredAs v b.first s b.caps (configuration (joined v label u)) w r
           → Added (AtPlace v i label) b v s w r
-      sum_added w (On t) f =
+      sum_added w (Some t) f =
           record {
             kept = entered_kept f;
             added = λ g h o a k l p z.
@@ -346,7 +318,7 @@ module _ (b : Basis) (v : List ℕ) (s : Running) (i label : ℕ) (c : Standing 
                 (sum_adds g o ∙ ap₂ (λ (x : ℕ) (m : Move). add g.sheet x m.target) (sym p.label_is) (sym p.move_is))
                 f.entered;
           }
-      sum_added w Over f =
+      sum_added w None f =
           record {
             passes = λ g h o a. no_room_for_passes o.sound c.collecting a (sum_in_set g h o a) f;
             inside = f.inside;
@@ -354,9 +326,6 @@ module _ (b : Basis) (v : List ℕ) (s : Running) (i label : ℕ) (c : Standing 
 
 -- ---- the moves before a place
 module _ (b : Basis) (v : List ℕ) (s : Running) (label : ℕ) (c : Standing v b s) where
-  pub before_none : AddedOn (BeforePlace v b.first b.first label) b v s v s
-  before_none = added_none c (λ k l p. omega (arith, p.within))
-
   pub before_next : (i : ℕ) (w : List ℕ) (t : Running) (u : List ℕ) (r : Running) → b.first ≤ i → i < s.moves
       → AddedOn (BeforePlace v b.first i label) b v s w t → AddedOn (AtPlace w i label) b w t u r
       → AddedOn (BeforePlace v b.first (i + 1) label) b v s u r
@@ -381,9 +350,9 @@ module _ (b : Basis) (v : List ℕ) (s : Running) (label : ℕ) (c : Standing v 
 -- ---- all moves
 module _ (b : Basis) (v : List ℕ) (s : Running) (c : Standing v b s) where
   -- the moves with a label below the one at place j all stand before it
-  pub by_first : (j : ℕ) → b.first ≤ j → (w : List ℕ) (r : Noted) → Added (BeforePlace v b.first j (label_at v j)) b v s w r
+  pub by_first : (j : ℕ) → b.first ≤ j → (w : List ℕ) (r : Option Running) → Added (BeforePlace v b.first j (label_at v j)) b v s w r
       → Added (ByFirst v b.first s j) b v s w r
-  by_first j h w (On t) e =
+  by_first j h w (Some t) e =
       record {
         kept = e.kept;
         added = λ g x o a k l p z.
@@ -397,15 +366,7 @@ module _ (b : Basis) (v : List ℕ) (s : Running) (c : Standing v b s) where
               at = record { move_is = y.3; label_is = p.label_is };
             }) z;
       }
-  by_first j h w Over e = e
-
-  -- at a place that is not the first with its label nothing is to be done
-  pub not_by_first : (j : ℕ) → is_first v b.first j ≡ false → AddedOn (ByFirst v b.first s j) b v s v s
-  not_by_first j f =
-      added_none c (λ k l p. true_false (is_first v b.first j) p.first_with_it f)
-
-  pub earlier_none : AddedOn (ByEarlier v b.first s b.first) b v s v s
-  earlier_none = added_none c (λ k l p. omega (arith, p.within))
+  by_first j h w None e = e
 
   pub earlier_next : (j : ℕ) (w : List ℕ) (t : Running) (u : List ℕ) (r : Running) → b.first ≤ j → j < s.moves
       → AddedOn (ByEarlier v b.first s j) b v s w t → AddedOn (ByFirst w b.first t j) b w t u r
@@ -457,11 +418,3 @@ module _ (b : Basis) (v : List ℕ) (s : Running) (c : Standing v b s) where
               label_is = ap (λ (x : Move). x.label) y.3;
             }) z;
       }
-
--- ---- the answer taken apart
-module _ (P : Move → ℕ → Type 0) (b : Basis) (v : List ℕ) (s : Running) (w : List ℕ) (r : Noted) where
-  pub answer_on : {t : Running} → r ≡ On t → Added P b v s w r → AddedOn P b v s w t
-  answer_on e h = subst (Added P b v s w) e h
-
-  pub answer_over : r ≡ Over → Added P b v s w r → AddedOver b v s w
-  answer_over e h = subst (Added P b v s w) e h

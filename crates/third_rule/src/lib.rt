@@ -6,7 +6,7 @@ ghost use Rattle.std.specs.Prelude.{◌≡◌, ◌+◌, ◌≤◌, ◌<◌, leng
 ghost use Rattle.third_rule.specs.ThirdRule.{Standing, NewLabel, Added, AllAdded, AtPlace, BeforePlace, ByFirst, label_at, is_first};
 ghost use Rattle.work_layout.specs.WorkLayout.{moves_at, move_room};
 
-use collected_moves::{Noted, Running};
+use collected_moves::Running;
 use walk_state::Basis;
 use work_layout::{MEMBERS, MOVES};
 
@@ -20,41 +20,35 @@ fn label_at(work: &[u32], i: usize) -> u16
 
 // The target of move i with a label added, where the move's own label is inside it. A target whose store has it already is
 // a member.
-fn add_to(work: &mut [u32], i: usize, label: u16, b: Basis, s: Running) -> Noted
+fn add_to(work: &mut [u32], i: usize, label: u16, b: Basis, s: Running) -> Option<Running>
     requires { Standing work.old b s × (b.first ≤ i) × (i < s.moves) × NewLabel work.old b s (i + 1) label }
     ensures { Added (AtPlace work.old i label) b work.old s work.new result }
 {
     let a = label_at(work, i);
     if a & label != a {
-        return Noted::On(s);
+        return Some(s);
     }
     let id = (work[MOVES + i] % 65536) as usize;
     let x = member_table::key_of(work, MEMBERS, s.members, id);
     let u = sheet_types::configuration_of(x);
     let store = u.store;
     if label & store == label {
-        return Noted::On(s);
+        return Some(s);
     }
     let sum = u.add(work, label);
     move_entry::note_member(work, b.first, s, b.caps, sum.numbers())
 }
 
 // The targets of the moves before place j with a label added.
-fn add_to_all(work: &mut [u32], j: usize, label: u16, b: Basis, s: Running) -> Noted
+fn add_to_all(work: &mut [u32], j: usize, label: u16, b: Basis, s: Running) -> Option<Running>
     requires { Standing work.old b s × (b.first ≤ j) × (j ≤ s.moves) × NewLabel work.old b s j label }
     ensures { Added (BeforePlace work.old b.first j label) b work.old s work.new result }
 {
     let mut run = s;
-    let mut i = b.first;
-    while i < j {
-        let r = add_to(work, i, label, b, run);
-        let Noted::On(next) = r else {
-            return Noted::Over;
-        };
-        run = next;
-        i += 1;
+    for i in b.first..j {
+        run = add_to(work, i, label, b, run)?;
     }
-    Noted::On(run)
+    Some(run)
 }
 
 // Whether the move at place j is the first with its label.
@@ -69,7 +63,7 @@ fn first_with_label(work: &[u32], first: usize, j: usize) -> bool
 }
 
 // The additions of the label at place j, at the first move with it.
-fn add_label_of(work: &mut [u32], j: usize, b: Basis, s: Running) -> Noted
+fn add_label_of(work: &mut [u32], j: usize, b: Basis, s: Running) -> Option<Running>
     requires { Standing work.old b s × (b.first ≤ j) × (j < s.moves) }
     ensures { Added (ByFirst work.old b.first s j) b work.old s work.new result }
 {
@@ -77,24 +71,17 @@ fn add_label_of(work: &mut [u32], j: usize, b: Basis, s: Running) -> Noted
         let label = label_at(work, j);
         return add_to_all(work, j, label, b, s);
     }
-    Noted::On(s)
+    Some(s)
 }
 
 // All additions of the moves in hand. Each label is added once.
-pub fn add_labels(work: &mut [u32], b: Basis, s: Running) -> Noted
+pub fn add_labels(work: &mut [u32], b: Basis, s: Running) -> Option<Running>
     requires { Standing work.old b s }
     ensures { AllAdded b work.old s work.new result }
 {
-    let end = s.moves;
     let mut run = s;
-    let mut j = b.first;
-    while j < end {
-        let r = add_label_of(work, j, b, run);
-        let Noted::On(next) = r else {
-            return Noted::Over;
-        };
-        run = next;
-        j += 1;
+    for j in b.first..s.moves {
+        run = add_label_of(work, j, b, run)?;
     }
-    Noted::On(run)
+    Some(run)
 }

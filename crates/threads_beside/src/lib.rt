@@ -51,30 +51,26 @@ pub fn node_of(x: Numbers) -> NodeBeside
     }
 }
 
-// Whether threads joined are not more than the limit, and the node with them beside it where they are not.
-#[derive(Drop)]
-pub struct Beside {
-    pub fits: bool,
-    pub at: NodeBeside,
-}
-
 // The first n threads, which stand in ascending order, with so many others put in their places.
 fn insert_from(opened: &[u8], from: usize, more: usize, old: [u8; 8], n: usize) -> [u8; 8]
     requires { (from + more ≤ length opened.now) × (n + more ≤ 8) × NotFalling (take n old) }
     ensures { take (n + more) result ≡ insert_all (take n old) (take more (drop from opened.now)) }
 {
     let mut threads = old;
-    let mut i: usize = 0;
-    while i < more {
+    for i in 0..more {
         let longer = node_opening::insert(threads, n + i, opened[from + i]);
         threads = longer;
-        i += 1;
     }
     threads
 }
 
-// e with the threads that node q opens to put among its own; e itself where they are more than the limit.
-pub fn put_beside(table: &[u8; TABLE_END], e: NodeBeside, q: usize, limit: usize) -> Beside
+// e with the threads that node q opens to put among its own; none where they are more than the limit.
+pub fn put_beside(
+    table: &[u8; TABLE_END],
+    e: NodeBeside,
+    q: usize,
+    limit: usize,
+) -> Option<NodeBeside>
     requires { (q < max_nodes) × (e.count ≤ limit) × (limit ≤ 8) × (get_or (opened_of table.now).counts q 0 ≤ 8) × NotFalling (node_beside e).threads }
     ensures { PutBeside (opened_in (opened_of table.now) q) e limit result }
 {
@@ -82,26 +78,16 @@ pub fn put_beside(table: &[u8; TABLE_END], e: NodeBeside, q: usize, limit: usize
     let more = sheet_types::count_in(table, q);
     let opened: &[u8] = table;
     if limit < n + more {
-        return Beside { fits: false, at: e };
+        return None;
     }
     let old = e.threads;
     let threads = insert_from(opened, THREADS + 8 * q, more, old, n);
     let count = (n + more) as u8;
-    Beside {
-        fits: true,
-        at: NodeBeside {
-            node: e.node,
-            count,
-            threads,
-        },
-    }
-}
-
-// What is put at place j, where x stands, with y in the next place, when the thread at place i is taken out: x below place i, else y.
-fn later(x: u8, y: u8, i: usize, j: usize) -> u8
-    ensures { (j < i → result ≡ x) × (i ≤ j → result ≡ y) }
-{
-    if j < i { x } else { y }
+    Some(NodeBeside {
+        node: e.node,
+        count,
+        threads,
+    })
 }
 
 // The thread at place i with the others beside it.
@@ -109,13 +95,10 @@ pub fn thread_beside(e: Configuration, i: usize) -> NodeBeside
     requires { (i < e.count) × (e.count ≤ 8) }
     ensures { (node_beside result ≡ thread_at (configuration e) i) × (result.count + 1 ≡ e.count) }
 {
-    let own = e.threads;
-    let node = own[i] as u16;
     let mut threads = e.threads;
-    let mut j: usize = 0;
-    while j < 7 {
-        threads[j] = later(threads[j], threads[j + 1], i, j);
-        j += 1;
+    let node = threads[i] as u16;
+    for j in i..7 {
+        threads[j] = threads[j + 1];
     }
     let count = e.count - 1;
     NodeBeside {

@@ -1,40 +1,40 @@
 -- The reply to a move by places: among the moves of the other with its label the one whose target is separated last, the
 -- earlier one on a tie.
-use Rattle.std.specs.Prelude.{◌≡◌, refl, Bool, true, false, cond, List, [], ◌∷◌, ◌++◌, map, ℕ, zero, suc, ◌+◌, ◌-◌, ◌/◌, ◌%◌, ◌≤◌, ◌<◌, eqb, ltb}
-use Rattle.std.proofs.Common.{sym, ap, ap₂, ◌∙◌, subst, arith, add-one, eq-eqb, ne_eqb}
+use Rattle.std.specs.Prelude.{◌≡◌, refl, Option, Some, None, IfSome, Bool, true, false, cond, List, [], ◌∷◌, ◌++◌, map, ℕ, zero, suc, ◌+◌, ◌-◌, ◌/◌, ◌%◌, ◌≤◌, ◌<◌, eqb, ltb}
+use Rattle.std.proofs.Common.{sym, ap, ap₂, ◌∙◌, subst, arith, add-one}
 use Rattle.work_layout.specs.Lists.{select}
 use Rattle.work_layout.specs.Tabulate.{tabulate, tabulate_next, tabulate_none}
 use Rattle.work_layout.specs.NumberLaws.{numbers_tabulate}
 use Rattle.work_layout.specs.Sheet.{Configuration, Sheet}
 use Rattle.work_layout.specs.Orders.{Move}
-use Rattle.work_layout.specs.Moves.{moves}
 use Rattle.work_layout.specs.SetLayout.{member_at, first_move, move_total, move_numbers_at, move_from}
 use Rattle.work_layout.specs.Rounds.{rounds, apart_in}
 use Rattle.work_layout.specs.Trail.{Reply, none, move, highest, highest_of, reply_to}
 use Rattle.telling_moves.specs.RoundLayout.{number_in}
 use Rattle.telling_moves.specs.TrailLayout.{apart_at, TrailHeld}
 use Rattle.telling_moves.specs.TrailPlaces.{move_number}
-use Rattle.work_layout.specs.WorkLayout.{moves_at, member_room}
+use Rattle.work_layout.specs.WorkLayout.{moves_at}
 
 -- ---- what is computed
--- the later of the best target so far and that of move x, in reply to move y; 65535 stands for none
-abbrev pub better_at : List ℕ → ℕ → ℕ → ℕ → ℕ → ℕ
-better_at w last y best x =
-    cond (eqb (x / 65536) (y / 65536))
-    (cond (eqb best 65535) (x % 65536)
-    (cond (ltb (apart_at w last (y % 65536) best) (apart_at w last (y % 65536) (x % 65536))) (x % 65536) best))
-    best
+-- the later of the best target so far and place u, in reply to move y
+abbrev pub later_of : List ℕ → ℕ → ℕ → Option ℕ → ℕ → Option ℕ
+later_of w last y None u = Some u
+later_of w last y (Some b) u = Some (cond (ltb (apart_at w last (y % 65536) b) (apart_at w last (y % 65536) u)) u b)
+
+-- the later of the best target so far and that of move x, in reply to move y
+abbrev pub better_at : List ℕ → ℕ → ℕ → Option ℕ → ℕ → Option ℕ
+better_at w last y best x = cond (eqb (x / 65536) (y / 65536)) (later_of w last y best (x % 65536)) best
 
 -- the best target among the first k moves of the member at place q
-unfoldable pub reply_below : List ℕ → ℕ → ℕ → ℕ → ℕ → ℕ
-reply_below w last y q zero = 65535
+unfoldable pub reply_below : List ℕ → ℕ → ℕ → ℕ → ℕ → Option ℕ
+reply_below w last y q zero = None
 reply_below w last y q (suc k) = better_at w last y (reply_below w last y q k) (move_number w q k)
 
 -- and among all of them
-abbrev pub reply_at : List ℕ → ℕ → ℕ → ℕ → ℕ
+abbrev pub reply_at : List ℕ → ℕ → ℕ → ℕ → Option ℕ
 reply_at w last y q = reply_below w last y q (move_total w q)
 
-pub reply_first : (w : List ℕ) (last y q : ℕ) → reply_below w last y q 0 ≡ 65535
+pub reply_first : (w : List ℕ) (last y q : ℕ) → reply_below w last y q 0 ≡ None
 unfolding reply_below
 reply_first w last y q = refl
 
@@ -44,17 +44,20 @@ unfolding reply_below
 reply_next w last y q k = rw (add-one k)
 
 -- it is none, or has what the target of x and the best so far have
-pub better_keeps : (w : List ℕ) (last y best x : ℕ) (Q : ℕ → Type 0) → Q (x % 65536) → ((best ≡ 65535 → ⊥) → Q best)
-    → (better_at w last y best x ≡ 65535 → ⊥) → Q (better_at w last y best x)
-better_keeps w last y best x Q l b =
-    ways (eqb (x / 65536) (y / 65536)) (eqb best 65535) (ltb (apart_at w last (y % 65536) best) (apart_at w last (y % 65536) (x % 65536)))
+pub better_keeps : (w : List ℕ) (last y : ℕ) (best : Option ℕ) (x : ℕ) (Q : ℕ → Type 0) → Q (x % 65536) → IfSome best Q
+    → IfSome (better_at w last y best x) Q
+better_keeps w last y None x Q l b = ways (eqb (x / 65536) (y / 65536))
   where
-    ways : (s t u : Bool) → (cond s (cond t (x % 65536) (cond u (x % 65536) best)) best ≡ 65535 → ⊥)
-        → Q (cond s (cond t (x % 65536) (cond u (x % 65536) best)) best)
-    ways true true u d = l
-    ways true false true d = l
-    ways true false false d = b d
-    ways false t u d = b d
+    ways : (s : Bool) → IfSome (cond s (Some (x % 65536)) None) Q
+    ways true = l
+    ways false = b
+better_keeps w last y (Some k) x Q l b =
+    ways (eqb (x / 65536) (y / 65536)) (ltb (apart_at w last (y % 65536) k) (apart_at w last (y % 65536) (x % 65536)))
+  where
+    ways : (s t : Bool) → IfSome (cond s (Some (cond t (x % 65536) k)) (Some k)) Q
+    ways true true = l
+    ways true false = b
+    ways false t = b
 
 -- ---- the highest of a list with one more move at its end
 module _ (value : Configuration → ℕ) where
@@ -90,10 +93,10 @@ map_next : {A B : Type 0} (f : A → B) (xs : List A) (x : A) → map f (xs ++ (
 map_next f [] x = refl
 map_next {A} {B} f (y ∷ xs) x = ap (λ (l : List B). f y ∷ l) (map_next f xs x)
 
--- a number stands for a reply: 65535 for none, the place of its target for a move
-pub data StandsFor (w : List ℕ) (n : ℕ) (reply : Reply) (u : ℕ) : Type 0 where
-  for_none : reply ≡ none → u ≡ 65535 → StandsFor w n reply u
-  for_move : (k : Move) → reply ≡ move k → u < n → k.target ≡ member_at w u → StandsFor w n reply u
+-- a place stands for a reply: none for none, that of its target for a move
+pub data StandsFor (w : List ℕ) (n : ℕ) (reply : Reply) (u : Option ℕ) : Type 0 where
+  for_none : reply ≡ none → u ≡ None → StandsFor w n reply u
+  for_move : (k : Move) (i : ℕ) → reply ≡ move k → u ≡ Some i → i < n → k.target ≡ member_at w i → StandsFor w n reply u
 
 module _ {sheet : Sheet} {set : List Configuration} {w : List ℕ} {n m last : ℕ} (T : TrailHeld sheet set w n m last) where
   -- how late a target is separated from that of y
@@ -102,27 +105,25 @@ module _ {sheet : Sheet} {set : List Configuration} {w : List ℕ} {n m last : �
 
   -- one move more
   module _ (y x : ℕ) (ly : y % 65536 < n) (lx : x % 65536 < n) where
-    improves : (reply : Reply) (u : ℕ) → StandsFor w n reply u
-        → StandsFor w n (improved (value y) reply (move_from w x))
-        (cond (eqb u 65535) (x % 65536) (cond (ltb (apart_at w last (y % 65536) u) (apart_at w last (y % 65536) (x % 65536))) (x % 65536) u))
+    improves : (reply : Reply) (u : Option ℕ) → StandsFor w n reply u
+        → StandsFor w n (improved (value y) reply (move_from w x)) (later_of w last y u (x % 65536))
     improves reply u (for_none e f) =
-        for_move (move_from w x) (ap (λ (r : Reply). improved (value y) r (move_from w x)) e) (rw (eq-eqb u 65535 f) lx)
-        (rw (eq-eqb u 65535 f))
-    improves reply u (for_move k e l t) =
-        let few : n ≤ member_room = T.held.few.0 in
-        let d : eqb u 65535 ≡ false = ne_eqb u 65535 (λ z. omega arith) in
-        let a : value y k.target ≡ apart_at w last (y % 65536) u =
-        ap (value y) t ∙ sym (T.first_apart (y % 65536) u ly l) in
+        subst (λ (v : Option ℕ). StandsFor w n (improved (value y) reply (move_from w x)) (later_of w last y v (x % 65536))) (sym f)
+        (for_move (move_from w x) (x % 65536) (ap (λ (r : Reply). improved (value y) r (move_from w x)) e) refl lx refl)
+    improves reply u (for_move k i e f l t) =
+        let a : value y k.target ≡ apart_at w last (y % 65536) i =
+        ap (value y) t ∙ sym (T.first_apart (y % 65536) i ly l) in
         let b : value y (member_at w (x % 65536)) ≡ apart_at w last (y % 65536) (x % 65536) =
         sym (T.first_apart (y % 65536) (x % 65536) ly lx) in
-        rw d (go (ltb (apart_at w last (y % 65536) u) (apart_at w last (y % 65536) (x % 65536)))
+        subst (λ (v : Option ℕ). StandsFor w n (improved (value y) reply (move_from w x)) (later_of w last y v (x % 65536))) (sym f)
+        (go (ltb (apart_at w last (y % 65536) i) (apart_at w last (y % 65536) (x % 65536)))
         (ap (λ (r : Reply). improved (value y) r (move_from w x)) e
         ∙ ap (λ (c : Bool). move (cond c (move_from w x) k)) (ap₂ (λ (i j : ℕ). ltb i j) a b)))
       where
         go : (c : Bool) → improved (value y) reply (move_from w x) ≡ move (cond c (move_from w x) k)
-            → StandsFor w n (improved (value y) reply (move_from w x)) (cond c (x % 65536) u)
-        go true r = for_move (move_from w x) r lx refl
-        go false r = for_move k r l t
+            → StandsFor w n (improved (value y) reply (move_from w x)) (Some (cond c (x % 65536) i))
+        go true r = for_move (move_from w x) (x % 65536) r refl lx refl
+        go false r = for_move k i r refl l t
 
   module _ (y q : ℕ) (ly : y % 65536 < n) (lq : q < n) where
     abbrev same_label : Move → Bool
@@ -151,17 +152,10 @@ module _ {sheet : Sheet} {set : List Configuration} {w : List ℕ} {n m last : �
       where
         go : (c : Bool) → StandsFor w n (highest_of (value y) (replies_below k)) (reply_below w last y q k)
             → StandsFor w n (highest_of (value y) (cond c (replies_below k ++ (move_from w (move_number w q k) ∷ [])) (replies_below k)))
-            (cond c
-            (cond (eqb (reply_below w last y q k) 65535) (move_number w q k % 65536)
-            (cond (ltb (apart_at w last (y % 65536) (reply_below w last y q k)) (apart_at w last (y % 65536) (move_number w q k % 65536)))
-            (move_number w q k % 65536) (reply_below w last y q k)))
-            (reply_below w last y q k))
+            (cond c (later_of w last y (reply_below w last y q k) (move_number w q k % 65536)) (reply_below w last y q k))
         go false ih = ih
         go true ih =
-            subst (λ (r : Reply). StandsFor w n r
-            (cond (eqb (reply_below w last y q k) 65535) (move_number w q k % 65536)
-            (cond (ltb (apart_at w last (y % 65536) (reply_below w last y q k)) (apart_at w last (y % 65536) (move_number w q k % 65536)))
-            (move_number w q k % 65536) (reply_below w last y q k))))
+            subst (λ (r : Reply). StandsFor w n r (later_of w last y (reply_below w last y q k) (move_number w q k % 65536)))
             (sym (highest_of_next (value y) (replies_below k) (move_from w (move_number w q k))))
             (improves y (move_number w q k) ly
             (T.held.targets q (move_number w q k) lq (number_in sheet set w n m T.held q k lq (omega arith)))

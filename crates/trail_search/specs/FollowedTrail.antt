@@ -1,5 +1,5 @@
 -- The trail followed from pair to pair: the steps stored so far, and those from the present pair, are the trail.
-use Rattle.std.specs.Prelude.{◌≡◌, refl, Bool, true, false, cond, List, [], ◌∷◌, ◌++◌, map, ℕ, suc, ◌+◌, ◌*◌, ◌-◌, ◌%◌, ◌≤◌, ◌<◌, length, get_or, set, eqb}
+use Rattle.std.specs.Prelude.{◌≡◌, refl, Option, Some, None, Bool, true, false, cond, List, [], ◌∷◌, ◌++◌, map, ℕ, suc, ◌+◌, ◌*◌, ◌-◌, ◌%◌, ◌≤◌, ◌<◌, length, get_or, set, eqb}
 use Rattle.std.proofs.Common.{sym, ap, ap₂, ◌∙◌, subst, inl, append_assoc, append-nil, arith, length-set, get_or-set_same, get_or-set_other}
 use Rattle.std.proofs.lemmas.List.{length-map}
 use Rattle.number_lists.specs.Tabulate.{tabulate, tabulate_none, tabulate_next, tabulate_same, tabulate_length}
@@ -14,7 +14,7 @@ use Rattle.telling_moves.specs.RoundLayout.{held_count_lem}
 use Rattle.report_bytes.specs.ReportInSlice.{StepNumbers, step_in, step_numbers}
 use Rattle.telling_moves.specs.TrailLayout.{apart_at, TrailHeld, Followable, rounds_few, trail_held_same, member_same, followable_same}
 use Rattle.trail_replies.specs.Replies.{reply_at}
-use Rattle.trail_search.specs.TakenMove.{Takes, step_of, other_of, next_left, next_right, Followed, takes_target, step_follows, trail_apart_never, trail_apart_first}
+use Rattle.trail_search.specs.TakenMove.{Takes, NoneTakes, reply_number, one_takes, step_of, other_of, next_left, next_right, Followed, takes_target, step_follows, trail_apart_never, trail_apart_first}
 use Rattle.work_layout.specs.WorkLayout.{work_end, steps_at, steps_end, member_room}
 
 -- step k stored
@@ -181,12 +181,18 @@ module _ {v : List ℕ} {n last p q : ℕ} (F : Followable v n last) (lp : p < n
         ap (λ (f : ℕ). trail_from sheet set (rounds sheet set) f (member_at v i) (member_at v j)) e
         ∙ trail_zero sheet set (member_at v i) (member_at v j))
 
+    -- one of the two has a move to take where a round between has them apart
+    pub following_takes : {a : ℕ} → a ≡ apart_at w last i j → (a ≡ 0 → ⊥) → (a ≡ last → ⊥) → NoneTakes w n last (a - 1) i j → ⊥
+    following_takes s some early N =
+        one_takes (held_now F.sheet F.set F.m F.held) i j G.lefts G.rights (λ e. some (s ∙ e)) (λ e. early (s ∙ e))
+        (subst (λ (b : ℕ). NoneTakes w n last (b - 1) i j) s N)
+
     -- ---- one step more
-    module _ {side number reply : ℕ} (early : k < last) (some : apart_at w last i j ≡ 0 → ⊥) (ever : apart_at w last i j ≡ last → ⊥)
+    module _ {side number : ℕ} {reply : Option ℕ} (early : k < last) (some : apart_at w last i j ≡ 0 → ⊥) (ever : apart_at w last i j ≡ last → ⊥)
         (T : Takes w n last (apart_at w last i j - 1) i j side number) (is : reply ≡ reply_at w last number (other_of side i j))
         (long : work_end ≤ length w) where
       abbrev next : List ℕ
-      next = step_stored w k side number reply
+      next = step_stored w k side number (reply_number reply)
 
       room : steps_at + 3 * k + 2 < length w
       room = omega (arith, last_few)
@@ -194,7 +200,7 @@ module _ {v : List ℕ} {n last p q : ℕ} (F : Followable v n last) (lp : p < n
       outside_next : SameOutside steps_at steps_end v next
       outside_next =
           outside_again G.outside
-          (outside_wider (stored_outside w k side number reply room) steps_at steps_end (omega arith) (omega (arith, last_few)))
+          (outside_wider (stored_outside w k side number (reply_number reply) room) steps_at steps_end (omega arith) (omega (arith, last_few)))
 
       follows : (sheet : Sheet) (set : List Configuration) (m : ℕ) (H : TrailHeld sheet set v n m last)
           → Followed (held_now sheet set m H) i j G.lefts G.rights some ever (last - (k + 1)) side number reply
@@ -202,7 +208,7 @@ module _ {v : List ℕ} {n last p q : ℕ} (F : Followable v n last) (lp : p < n
       follows sheet set m H =
           let s : last - k ≡ suc (last - (k + 1)) = omega arith in
           let h = held_now sheet set m H in
-          subst (λ (u : ℕ). Followed h i j G.lefts G.rights some ever (last - (k + 1)) side number u
+          subst (λ (u : Option ℕ). Followed h i j G.lefts G.rights some ever (last - (k + 1)) side number u
           (trail_from sheet set (rounds sheet set) (last - k) (member_at v i) (member_at v j))) (sym is)
           (subst (Followed h i j G.lefts G.rights some ever (last - (k + 1)) side number (reply_at w last number (other_of side i j)))
           (sym (members_now sheet set m H (last - k) i j G.lefts G.rights
@@ -210,33 +216,34 @@ module _ {v : List ℕ} {n last p q : ℕ} (F : Followable v n last) (lp : p < n
           (step_follows h i j G.lefts G.rights some ever (last - (k + 1)) side number T))
 
       -- there is no reply
-      pub following_alone : reply ≡ 65535 → Trailed v n last p q next (k + 1)
+      pub following_alone : reply ≡ None → Trailed v n last p q next (k + 1)
       following_alone z =
           let s : (sheet : Sheet) (set : List Configuration) (m : ℕ) → TrailHeld sheet set v n m last
           → tabulate (step_in next) (k + 1) ≡ map (step_numbers set) (trail sheet set (rounds sheet set) (member_at v p) (member_at v q)) =
           λ sheet set m H.
-          stored_steps w k side number reply room
+          stored_steps w k side number (reply_number reply) room
+          ∙ ap (λ (u : Option ℕ). tabulate (step_in w) k ++ (step_of side number (reply_number u) ∷ [])) z
           ∙ sym (G.steps sheet set m H ∙ ap (λ (l : List StepNumbers). tabulate (step_in w) k ++ l) ((follows sheet set m H).alone z)) in
           record { outside = outside_next; short = whole_short next (k + 1) (s F.sheet F.set F.m F.held); steps = s }
 
-      reply_inside : (reply ≡ 65535 → ⊥) → reply < n
-      reply_inside d = (follows F.sheet F.set F.m F.held).inside d
+      reply_inside : (t : ℕ) → reply ≡ Some t → t < n
+      reply_inside t d = (follows F.sheet F.set F.m F.held).inside t d
 
       target_inside : number % 65536 < n
       target_inside = takes_target (held_now F.sheet F.set F.m F.held) G.lefts G.rights T
 
-      next_inside : (reply ≡ 65535 → ⊥) → (next_left side number reply < n) × (next_right side number reply < n)
-      next_inside d = ways (eqb side 0)
+      next_inside : (t : ℕ) → reply ≡ Some t → (next_left side number t < n) × (next_right side number t < n)
+      next_inside t d = ways (eqb side 0)
         where
-          ways : (b : Bool) → (cond b (number % 65536) reply < n) × (cond b reply (number % 65536) < n)
-          ways true = (target_inside, reply_inside d)
-          ways false = (reply_inside d, target_inside)
+          ways : (b : Bool) → (cond b (number % 65536) t < n) × (cond b t (number % 65536) < n)
+          ways true = (target_inside, reply_inside t d)
+          ways false = (reply_inside t d, target_inside)
 
       -- there is one
-      pub following_on : (reply ≡ 65535 → ⊥)
-          → Following v n last p q next (next_left side number reply) (next_right side number reply) (k + 1)
-      following_on d =
-          let x = next_inside d in
+      pub following_on : (t : ℕ) → reply ≡ Some t
+          → Following v n last p q next (next_left side number t) (next_right side number t) (k + 1)
+      following_on t d =
+          let x = next_inside t d in
           record {
             outside = outside_next;
             few = omega arith;
@@ -244,12 +251,14 @@ module _ {v : List ℕ} {n last p q : ℕ} (F : Followable v n last) (lp : p < n
             rights = x.1;
             steps = λ sheet set m H.
                 let more : List StepNumbers = map (step_numbers set) (trail_from sheet set (rounds sheet set) (last - (k + 1))
-                (member_at v (next_left side number reply)) (member_at v (next_right side number reply))) in
+                (member_at v (next_left side number t)) (member_at v (next_right side number t))) in
                 G.steps sheet set m H
                 ∙ ap (λ (l : List StepNumbers). tabulate (step_in w) k ++ l)
-                ((follows sheet set m H).on d
-                ∙ ap (λ (l : List TrailStep). step_of side number reply ∷ map (step_numbers set) l)
-                (sym (members_now sheet set m H (last - (k + 1)) (next_left side number reply) (next_right side number reply) x.0 x.1)))
-                ∙ sym (append_assoc (tabulate (step_in w) k) (step_of side number reply ∷ []) more)
-                ∙ ap (λ (l : List StepNumbers). l ++ more) (sym (stored_steps w k side number reply room));
+                ((follows sheet set m H).on t d
+                ∙ ap (λ (l : List TrailStep). step_of side number t ∷ map (step_numbers set) l)
+                (sym (members_now sheet set m H (last - (k + 1)) (next_left side number t) (next_right side number t) x.0 x.1)))
+                ∙ sym (append_assoc (tabulate (step_in w) k) (step_of side number t ∷ []) more)
+                ∙ ap (λ (l : List StepNumbers). l ++ more)
+                (sym (stored_steps w k side number (reply_number reply) room
+                ∙ ap (λ (u : Option ℕ). tabulate (step_in w) k ++ (step_of side number (reply_number u) ∷ [])) d));
           }

@@ -1,15 +1,15 @@
 -- The move that is taken at a pair and the step that it makes, by places.
-use Rattle.std.specs.Prelude.{◌≡◌, true, cond, List, [], ◌∷◌, map, length, get_or, eqb}
+use Rattle.std.specs.Prelude.{◌≡◌, Option, Some, None, unwrap_or, true, cond, List, [], ◌∷◌, map, length, get_or, eqb}
 use Rattle.std.proofs.Math.Path.{refl, subst}
 use Rattle.std.proofs.Common.{sym, ap, ap₂, ◌∙◌, arith, eq-eqb, ne_eqb, lt-ltb, le-ltb}
-use Prim.Native.Nat.{ℕ, zero, suc, ◌-◌, ◌/◌, ◌%◌, ◌≤◌, ◌<◌}
+use Prim.Native.Nat.{ℕ, zero, suc, ◌-◌, ◌/◌, ◌%◌, ◌<◌}
 use Rattle.work_layout.specs.TestLaws.{true_false, and_intro, or_left, or_fails}
 use Rattle.work_layout.specs.Sheet.{Configuration, Sheet}
 use Rattle.work_layout.specs.Orders.{Move}
 use Rattle.work_layout.specs.SetLayout.{member_at, first_move, move_total, move_from}
 use Rattle.work_layout.specs.Classes.{place_of, share}
 use Rattle.work_layout.specs.Rounds.{together, rounds, apart_in}
-use Rattle.work_layout.specs.Trail.{Side, left, right, Reply, none, move, TrailStep, unanswered, reply_to, after, first_of, trail_from}
+use Rattle.work_layout.specs.Trail.{Side, left, right, Reply, move, TrailStep, unanswered, reply_to, after, first_of, trail_from}
 use Rattle.work_layout.specs.Report.{side_byte}
 use Rattle.report_bytes.specs.RoundLaws.{together_yes}
 use Rattle.report_bytes.specs.TrailLaws.{apart_le, trail_none, unanswered_none}
@@ -19,19 +19,24 @@ use Rattle.telling_moves.specs.PlaceTests.{First}
 use Rattle.telling_moves.specs.TrailLayout.{apart_at, TrailHeld}
 use Rattle.telling_moves.specs.TrailPlaces.{move_number, tells_at, sharing_held, share_before, untold_none, untold_first}
 use Rattle.trail_replies.specs.Replies.{reply_at, StandsFor, for_none, for_move, reply_stands}
-use Rattle.work_layout.specs.WorkLayout.{member_room}
 
--- The move that is taken at the pair of places p and q in round r: the left's first one that tells, else the right's. Where
--- neither has one, the right's with number 0.
+-- The move that is taken at the pair of places p and q in round r: the left's first one that tells, else the right's.
 pub data Takes (w : List ℕ) (n last r p q side number : ℕ) : Type 0 where
   from_left : (j : ℕ) → First (tells_at w n last r (first_move w p) q) (move_total w p) j → j < move_total w p
       → side ≡ 0 → number ≡ move_number w p j → Takes w n last r p q side number
   from_right : First (tells_at w n last r (first_move w p) q) (move_total w p) (move_total w p)
       → (j : ℕ) → First (tells_at w n last r (first_move w q) p) (move_total w q) j → j < move_total w q
       → side ≡ 1 → number ≡ move_number w q j → Takes w n last r p q side number
-  from_none : First (tells_at w n last r (first_move w p) q) (move_total w p) (move_total w p)
-      → First (tells_at w n last r (first_move w q) p) (move_total w q) (move_total w q)
-      → side ≡ 1 → number ≡ 0 → Takes w n last r p q side number
+
+-- neither has one that tells
+abbrev pub NoneTakes : List ℕ → ℕ → ℕ → ℕ → ℕ → ℕ → Type 0
+NoneTakes w n last r p q =
+    First (tells_at w n last r (first_move w p) q) (move_total w p) (move_total w p)
+    × First (tells_at w n last r (first_move w q) p) (move_total w q) (move_total w q)
+
+-- the number that is stored for a reply: 65535 for none
+abbrev pub reply_number : Option ℕ → ℕ
+reply_number reply = unwrap_or reply 65535
 
 -- the numbers of a step with this side, this move and this reply
 abbrev pub step_of : ℕ → ℕ → ℕ → StepNumbers
@@ -60,7 +65,6 @@ module _ {sheet : Sheet} {set : List Configuration} {w : List ℕ} {n m last : �
   takes_target {r} {p} {q} {side} {number} lp lq (from_right G j F l s e) =
       subst (λ (y : ℕ). y % 65536 < n) (sym e)
       (T.held.targets q (move_number w q j) lq (number_in sheet set w n m T.held q j lq l))
-  takes_target lp lq (from_none G F s e) = omega arith
 
   module _ (p q : ℕ) (lp : p < n) (lq : q < n) (some : apart_at w last p q ≡ 0 → ⊥) (early : apart_at w last p q ≡ last → ⊥) where
     -- the round in which a move is looked for
@@ -117,51 +121,59 @@ module _ {sheet : Sheet} {set : List Configuration} {w : List ℕ} {n m last : �
 
     -- ---- a step and what follows it
     -- The steps are the one with this side, move and reply, and those from the new pair where there is a reply.
-    pub record Followed (f side y u : ℕ) (steps : List TrailStep) : Type 0 where
-      pub alone : u ≡ 65535 → map (step_numbers set) steps ≡ step_of side y u ∷ []
-      pub inside : (u ≡ 65535 → ⊥) → u < n
-      pub on : (u ≡ 65535 → ⊥)
+    pub record Followed (f side y : ℕ) (u : Option ℕ) (steps : List TrailStep) : Type 0 where
+      pub alone : u ≡ None → map (step_numbers set) steps ≡ step_of side y 65535 ∷ []
+      pub inside : (i : ℕ) → u ≡ Some i → i < n
+      pub on : (i : ℕ) → u ≡ Some i
           → map (step_numbers set) steps
-          ≡ step_of side y u
-          ∷ map (step_numbers set) (trail_from sheet set rs f (member_at w (next_left side y u)) (member_at w (next_right side y u)))
+          ≡ step_of side y i
+          ∷ map (step_numbers set) (trail_from sheet set rs f (member_at w (next_left side y i)) (member_at w (next_right side y i)))
 
-    module _ (f y u : ℕ) (ly : y % 65536 < n) where
+    some_none : (i : ℕ) → Some i ≡ None → ⊥
+    some_none i h = cc
+
+    module _ (f y : ℕ) (ly : y % 65536 < n) where
       place_y : place_of set (member_at w (y % 65536)) ≡ y % 65536
       place_y = held_place sheet set w n m T.held T.ascends (y % 65536) ly
 
       -- its numbers
-      step_numbers_lem : (s : Side) {t : ℕ} → t ≡ u
+      step_numbers_lem : (u : ℕ) (s : Side) {t : ℕ} → t ≡ u
           → record { side = side_byte s; label = y / 65536; target = place_of set (member_at w (y % 65536)); reply = t } ≡ step_of (side_byte s) y u
-      step_numbers_lem s e = ap₂ (λ (i v : ℕ). record { side = side_byte s; label = y / 65536; target = i; reply = v }) place_y e
+      step_numbers_lem u s e = ap₂ (λ (i v : ℕ). record { side = side_byte s; label = y / 65536; target = i; reply = v }) place_y e
 
       -- the steps from the new pair on, the sides kept
-      on_after : (s : Side) (a : Move) → place_of set a.target ≡ u → a.target ≡ member_at w u
+      on_after : (u : ℕ) (s : Side) (a : Move) → place_of set a.target ≡ u → a.target ≡ member_at w u
           → map (step_numbers set) (after sheet set rs (trail_from sheet set rs f) s (move_from w y) (move a))
           ≡ step_of (side_byte s) y u
           ∷ map (step_numbers set) (trail_from sheet set rs f (member_at w (next_left (side_byte s) y u)) (member_at w (next_right (side_byte s) y u)))
-      on_after left a g t =
+      on_after u left a g t =
           ap₂ (λ (x : StepNumbers) (c : Configuration). x ∷ map (step_numbers set) (trail_from sheet set rs f (member_at w (y % 65536)) c))
-          (step_numbers_lem left g) t
-      on_after right a g t =
+          (step_numbers_lem u left g) t
+      on_after u right a g t =
           ap₂ (λ (x : StepNumbers) (c : Configuration). x ∷ map (step_numbers set) (trail_from sheet set rs f c (member_at w (y % 65536))))
-          (step_numbers_lem right g) t
+          (step_numbers_lem u right g) t
 
-      side_after : (s : Side) (k : Reply) → StandsFor w n k u
+      side_after : (s : Side) (k : Reply) (u : Option ℕ) → StandsFor w n k u
           → Followed f (side_byte s) y u (after sheet set rs (trail_from sheet set rs f) s (move_from w y) k)
-      side_after s k (for_none e z) =
+      side_after s k u (for_none e z) =
           subst (λ (r : Reply). Followed f (side_byte s) y u (after sheet set rs (trail_from sheet set rs f) s (move_from w y) r)) (sym e) (record {
-            alone = λ _. ap (λ (x : StepNumbers). x ∷ []) (step_numbers_lem s (sym z));
-            inside = λ d. absurd (d z);
-            on = λ d. absurd (d z);
+            alone = λ _. ap (λ (x : StepNumbers). x ∷ []) (step_numbers_lem 65535 s refl);
+            inside = λ i h. absurd (some_none i (sym h ∙ z));
+            on = λ i h. absurd (some_none i (sym h ∙ z));
           })
-      side_after s k (for_move a e l t) =
-          let few : n ≤ member_room = T.held.few.0 in
-          let g : place_of set a.target ≡ u = ap (place_of set) t ∙ held_place sheet set w n m T.held T.ascends u l in
-          subst (λ (r : Reply). Followed f (side_byte s) y u (after sheet set rs (trail_from sheet set rs f) s (move_from w y) r)) (sym e) (record {
-            alone = λ z. absurd (omega arith);
-            inside = λ d. l;
-            on = λ d. on_after s a g t;
-          })
+      side_after s k u (for_move a i e z l t) =
+          subst (λ (r : Reply). Followed f (side_byte s) y u (after sheet set rs (trail_from sheet set rs f) s (move_from w y) r)) (sym e)
+          (subst (λ (v : Option ℕ). Followed f (side_byte s) y v (after sheet set rs (trail_from sheet set rs f) s (move_from w y) (move a))) (sym z)
+          (record {
+            alone = λ h. absurd (some_none i h);
+            inside = λ j h. subst (λ (v : ℕ). v < n) (some_same i j h) l;
+            on = λ j h.
+                let c : i ≡ j = some_same i j h in
+                on_after j s a (ap (place_of set) t ∙ held_place sheet set w n m T.held T.ascends i l ∙ c) (t ∙ ap (member_at w) c);
+          }))
+        where
+          some_same : (i j : ℕ) → Some i ≡ Some j → i ≡ j
+          some_same i j h = cc
 
     -- the step that is taken begins the trail from the pair
     pub step_follows : (f side y : ℕ) → Takes w n last round p q side y
@@ -180,7 +192,7 @@ module _ {sheet : Sheet} {set : List Configuration} {w : List ℕ} {n m last : �
             (trail_from sheet set rs (suc f) (member_at w p) (member_at w q)))
             (sym s)
             (subst (Followed f (side_byte d) y (reply_at w last y o)) (sym e)
-            (side_after f y (reply_at w last y o) ly d (reply_to sheet set rs (member_at w o) (move_from w y)) (reply_stands T y o ly lo)))
+            (side_after f y ly d (reply_to sheet set rs (member_at w o) (move_from w y)) (reply_at w last y o) (reply_stands T y o ly lo)))
 
         go : Takes w n last round p q side y → y % 65536 < n
             → Followed f side y (reply_at w last y (other_of side p q)) (trail_from sheet set rs (suc f) (member_at w p) (member_at w q))
@@ -195,8 +207,10 @@ module _ {sheet : Sheet} {set : List Configuration} {w : List ℕ} {n m last : �
             by right s ly lp (trail_opens f
             ∙ ap₂ (λ (ms ks : List Move). first_of sheet set rs (trail_from sheet set rs f) (member_at w p) (member_at w q) ms ks)
             (untold_none T round p q round_early lp lq G) (x.1 ∙ ap (λ (i : ℕ). move_from w i ∷ x.0) (sym e)))
-        go (from_none G F s e) ly =
-            absurd (one_tells (untold_none T round p q round_early lp lq G) (untold_none T round q p round_early lq lp F))
+
+    -- one of the two has a move to take
+    pub one_takes : NoneTakes w n last round p q → ⊥
+    one_takes N = one_tells (untold_none T round p q round_early lp lq N.0) (untold_none T round q p round_early lq lp N.1)
 
   -- ---- where the trail ends
   pub trail_apart_never : (f p q : ℕ) → p < n → q < n → apart_at w last p q ≡ last

@@ -4,7 +4,8 @@
 
 ghost use Rattle.std.specs.Prelude.{◌≡◌, ◌≤◌, ◌<◌, length};
 ghost use Rattle.telling_moves.specs.TrailLayout.{Followable};
-ghost use Rattle.trail_search.specs.TakenMove.{Takes, other_of, next_left, next_right};
+ghost use Rattle.trail_search.specs.TakenMove.{other_of, next_left, next_right, reply_number};
+ghost use Rattle.trail_search.specs.TakenSides.{side_number, TakenIs};
 ghost use Rattle.trail_search.specs.FollowedTrail.{step_stored, Trailed};
 ghost use Rattle.work_layout.specs.WorkLayout.{work_end, member_room};
 
@@ -12,10 +13,17 @@ use telling_moves::telling;
 use trail_replies::reply_to;
 use work_layout::{MOVES, NONE, STEPS};
 
-// A move that was taken: 0 for the left, 1 for the right, and its number.
+// The side that moves.
+#[derive(Clone, Copy)]
+pub enum Side {
+    Left,
+    Right,
+}
+
+// A move that was taken: its side and its number.
 #[derive(Clone, Copy)]
 pub struct Taken {
-    pub side: u32,
+    pub side: Side,
     pub number: u32,
 }
 
@@ -27,56 +35,66 @@ pub struct Pair {
 }
 
 // The move that is taken at a pair: the left's tried before the right's.
-fn take_move(work: &[u32], n: usize, last: usize, p: usize, q: usize, r: usize) -> Taken
+fn take_move(work: &[u32], n: usize, last: usize, p: usize, q: usize, r: usize) -> Option<Taken>
     requires { Followable work.now n last × (p < n) × (q < n) }
-    ensures { Takes work.now n last r p q result.side result.number }
+    ensures { TakenIs work.now n last r p q result }
 {
-    let j = telling(work, n, last, p, q, r);
-    if j < work_layout::move_total(work, p) {
-        return Taken {
-            side: 0,
+    if let Some(j) = telling(work, n, last, p, q, r) {
+        return Some(Taken {
+            side: Side::Left,
             number: work[MOVES + work_layout::first_move(work, p) + j],
-        };
+        });
     }
-    let k = telling(work, n, last, q, p, r);
-    if k < work_layout::move_total(work, q) {
-        return Taken {
-            side: 1,
-            number: work[MOVES + work_layout::first_move(work, q) + k],
-        };
-    }
-    Taken { side: 1, number: 0 }
+    let k = telling(work, n, last, q, p, r)?;
+    Some(Taken {
+        side: Side::Right,
+        number: work[MOVES + work_layout::first_move(work, q) + k],
+    })
 }
 
-// Stores step k.
-fn put_step(work: &mut [u32], k: usize, side: u32, number: u32, reply: u32)
+// Stores step k: 0 for the left or 1 for the right, the move's number, and the reply's place.
+fn put_step(work: &mut [u32], k: usize, taken: Taken, reply: Option<u32>)
     requires { (k ≤ member_room) × (work_end ≤ length work.old) }
-    ensures { work.new ≡ step_stored work.old k side number reply }
+    ensures { work.new ≡ step_stored work.old k (side_number taken.side) taken.number (reply_number reply) }
 {
-    number_lists::put_three(work, STEPS + 3 * k, side, number, reply);
+    let side = match taken.side {
+        Side::Left => 0,
+        Side::Right => 1,
+    };
+    number_lists::put_three(
+        work,
+        STEPS + 3 * k,
+        side,
+        taken.number,
+        reply.unwrap_or(NONE),
+    );
 }
 
 // The place of the one that replies.
 fn other_of(taken: Taken, p: usize, q: usize) -> usize
-    ensures { result ≡ other_of taken.side p q }
+    ensures { result ≡ other_of (side_number taken.side) p q }
 {
-    if taken.side == 0 { q } else { p }
+    match taken.side {
+        Side::Left => q,
+        Side::Right => p,
+    }
 }
 
 // The new pair: sides are kept.
 fn next_pair(taken: Taken, reply: u32) -> Pair
-    ensures { (result.left ≡ next_left taken.side taken.number reply) × (result.right ≡ next_right taken.side taken.number reply) }
+    ensures { (result.left ≡ next_left (side_number taken.side) taken.number reply)
+        × (result.right ≡ next_right (side_number taken.side) taken.number reply) }
 {
-    let t = (taken.number % 65536) as usize;
-    if taken.side == 0 {
-        return Pair {
-            left: t,
+    let target = (taken.number % 65536) as usize;
+    match taken.side {
+        Side::Left => Pair {
+            left: target,
             right: reply as usize,
-        };
-    }
-    Pair {
-        left: reply as usize,
-        right: t,
+        },
+        Side::Right => Pair {
+            left: reply as usize,
+            right: target,
+        },
     }
 }
 
@@ -87,22 +105,22 @@ pub fn trail(work: &mut [u32], n: usize, last: usize, p: usize, q: usize) -> usi
 {
     let mut left = p;
     let mut right = q;
-    let mut k: usize = 0;
-    while k < last {
+    for k in 0..last {
         let r = separations::apart_at(work, last, left, right);
         if r == 0 || r == last {
             return k;
         }
-        let taken = take_move(work, n, last, left, right, r - 1);
+        let Some(taken) = take_move(work, n, last, left, right, r - 1) else {
+            unreachable!()
+        };
         let reply = reply_to(work, last, taken.number, other_of(taken, left, right));
-        put_step(work, k, taken.side, taken.number, reply);
-        k += 1;
-        if reply == NONE {
-            return k;
-        }
-        let pair = next_pair(taken, reply);
+        put_step(work, k, taken, reply);
+        let Some(place) = reply else {
+            return k + 1;
+        };
+        let pair = next_pair(taken, place);
         left = pair.left;
         right = pair.right;
     }
-    k
+    last
 }

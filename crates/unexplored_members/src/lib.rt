@@ -26,17 +26,16 @@ fn unexplored(work: &[u32], id: usize) -> bool
 }
 
 // The lowest place from `low` on whose member is unexplored; n where there is none.
+// Kept a number for none: an Option is no plainer, as n is the place behind the last, of which the contract says the same.
 pub fn next_place(work: &[u32], low: usize, n: usize) -> usize
     requires { Kept (member_part work.now) n × (low ≤ n) × (work_end ≤ length work.now) }
     ensures { NextPlace work.now low n result }
 {
-    let mut j = low;
-    while j < n {
+    for j in low..n {
         let id = member_table::id_at(work, MEMBERS, n, j);
         if unexplored(work, id) {
             return j;
         }
-        j += 1;
     }
     n
 }

@@ -35,11 +35,9 @@ pub fn verdict_on(apart: usize, last: usize, left: usize, right: usize, length: 
 pub fn verdict_in(together: bool, last: bool) -> Verdict
     ensures { result ≡ verdict_returned (verdict_in together last) }
 {
-    if together {
-        if last {
-            return Verdict::Same;
-        }
-        return Verdict::Open;
+    match (together, last) {
+        (true, true) => Verdict::Same,
+        (true, false) => Verdict::Open,
+        (false, _) => Verdict::Diff,
     }
-    Verdict::Diff
 }

@@ -10,7 +10,6 @@ use Rattle.collected_moves.specs.Tabulate.{tabulate_at}
 use Rattle.nodes_to_visit.specs.Sheet.{Node, Configuration}
 use Rattle.nodes_to_visit.specs.Orders.{Move}
 use Rattle.nodes_to_visit.specs.Moves.{moves}
-use Rattle.nodes_to_visit.specs.Refinement.{target}
 use Rattle.movable_nodes.specs.NodeMoves.{NodeBeside, placed_moves}
 use Rattle.nodes_to_visit.specs.Promise.{PassesLimit}
 use Rattle.ask_labels.specs.ClosureTable.{closures_agree}
@@ -21,8 +20,7 @@ use Rattle.ask_labels.specs.LabelShelf.{Shelved}
 use Rattle.ask_labels.specs.LabelShelfLaws.{sets_few, room_agree, shelved_agree}
 use Rattle.collected_moves.specs.declared.Caps.{Caps}
 use Rattle.collected_moves.specs.declared.Running.{Running}
-use Rattle.collected_moves.specs.declared.Noted.{Noted}
-use Rattle.collected_moves.specs.declared.Noted.TheVariants.{On, Over}
+use Rattle.std.specs.Prelude.{Option, Some, None}
 use Rattle.collected_moves.specs.CollectedMoves.{members_of, moves_of, Collecting, Grown, NotedOn, NoRoom}
 use Rattle.collected_moves.specs.CollectedLaws.{grown_refl, grown_trans}
 use Rattle.collected_moves.specs.CollectedFrames.{members_outside, moves_outside, collecting_outside, grown_outside}
@@ -55,9 +53,9 @@ pub record AllPass (v : List ℕ) (first : ℕ) (s : Running) (l : Caps) (ms : L
   pub inside : SameOutside (moves_at + first) (members_at + table_length) v w
 
 -- what noting several moves gives
-abbrev pub NotedAllAs : List ℕ → ℕ → Running → Caps → List Move → List ℕ → Noted → Type 0
-NotedAllAs v first s l ms w (On t) = NotedAll v first s l ms w t
-NotedAllAs v first s l ms w Over = AllPass v first s l ms w
+abbrev pub NotedAllAs : List ℕ → ℕ → Running → Caps → List Move → List ℕ → Option Running → Type 0
+NotedAllAs v first s l ms w (Some t) = NotedAll v first s l ms w t
+NotedAllAs v first s l ms w None = AllPass v first s l ms w
 
 pub noted_none : {v : List ℕ} {first : ℕ} {s : Running} {l : Caps} → Collecting v first s l → NotedAll v first s l [] v s
 noted_none {v} {first} {s} c =
@@ -134,11 +132,11 @@ pub pass_one : {v : List ℕ} {first : ℕ} {s : Running} {l : Caps} {m : Move} 
 pass_one {m = m} c n = pass_next (noted_none c) (m ∷ []) (λ k i. i) n
 
 -- ---- the answer taken apart
-module _ {v : List ℕ} {first : ℕ} {s : Running} {l : Caps} {ms : List Move} {w : List ℕ} {r : Noted} where
-  pub all_on : {t : Running} → r ≡ On t → NotedAllAs v first s l ms w r → NotedAll v first s l ms w t
+module _ {v : List ℕ} {first : ℕ} {s : Running} {l : Caps} {ms : List Move} {w : List ℕ} {r : Option Running} where
+  pub all_on : {t : Running} → r ≡ Some t → NotedAllAs v first s l ms w r → NotedAll v first s l ms w t
   all_on e h = subst (NotedAllAs v first s l ms w) e h
 
-  pub all_over : r ≡ Over → NotedAllAs v first s l ms w r → AllPass v first s l ms w
+  pub all_over : r ≡ None → NotedAllAs v first s l ms w r → AllPass v first s l ms w
   all_over e h = subst (NotedAllAs v first s l ms w) e h
 
 -- ---- the table of closures

@@ -13,7 +13,6 @@ use Rattle.collected_moves.specs.TabulateLaws.{mem_tabulate, tabulate_mem}
 use Rattle.nodes_to_visit.specs.Sheet.{Node, stop, tell, ask, both, either, Sheet, node_of, opening_of, open_within, opened}
 use Rattle.movable_nodes.specs.Ranks.{OfParts, Part, Ranked}
 use Rattle.nodes_to_visit.specs.Orders.{Move}
-use Rattle.nodes_to_visit.specs.Moves.{moves}
 use Rattle.movable_nodes.specs.NodeMoves.{NodeBeside, placed_moves}
 use Rattle.movable_nodes.specs.ThreadLaws.{sort_append_length}
 use Rattle.collected_moves.specs.MemberTable.{members_in, part_at}

@@ -1,6 +1,6 @@
 -- A walk over the nodes of one thread: each node with threads beside it is visited, what it gives at once is noted, and what
 -- it is made of is kept until it is visited too.
-use Rattle.std.specs.Prelude.{◌≡◌, ◌⊎◌, ℕ, ◌+◌, ◌*◌, ◌^◌, ◌≤◌, ◌<◌, length, get_or, take, drop}
+use Rattle.std.specs.Prelude.{◌≡◌, ◌⊎◌, ℕ, ◌+◌, ◌^◌, ◌≤◌, ◌<◌, length, get_or}
 use mathlib.Core.List.{List, [], ◌∷◌, ◌++◌, map, Memᴰ}
 use Rattle.nodes_to_visit.specs.Lists.{NotFalling}
 use Rattle.nodes_to_visit.specs.Frames.{SameOutside}
@@ -16,7 +16,6 @@ use Rattle.ask_labels.specs.ClosureTable.{Closures}
 use Rattle.movable_nodes.specs.Movability.{MovableHeld}
 use Rattle.collected_moves.specs.MemberTable.{members_in, part_at, Kept}
 use Rattle.ask_labels.specs.LabelShelf.{ShelfRoom, Shelved}
-use Rattle.collected_moves.specs.declared.Caps.{Caps}
 use Rattle.collected_moves.specs.CollectedMoves.{Collecting, Grown, members_of, moves_of}
 use Rattle.set_growth.specs.SetGrowth.{Growth, Sound, InHand, Gathered}
 use Rattle.nodes_to_visit.specs.ThreadsBeside.{placed}
@@ -24,8 +23,7 @@ use Rattle.nodes_to_visit.specs.NodesToVisit.{PendingPacked, pending_one, pendin
 use Rattle.nodes_to_visit.specs.NodesToVisitLaws.{weight}
 use Rattle.walk_state.specs.declared.Basis.{Basis}
 use Rattle.walk_state.specs.declared.Walk.{Walk}
-use Rattle.walk_state.specs.declared.Walked.{Walked}
-use Rattle.walk_state.specs.declared.Walked.TheVariants.{On, Over}
+use Rattle.std.specs.Prelude.{Option, Some, None}
 use Rattle.collected_moves.specs.WorkLayout.{work_end, moves_at, marks_at}
 use Rattle.nodes_to_visit.specs.SheetLimits.{max_nodes, max_threads}
 
@@ -132,10 +130,10 @@ pub record TurnOver (rank : ℕ → ℕ) (nodes : List Node) (b : Basis) (v : Li
   pub outside : SameOutside (moves_at + b.first) work_end v w
 
 -- by the answer
-abbrev pub Turned : (ℕ → ℕ) → List Node → Basis → List ℕ → Walk → List NodeBeside → List ℕ → Walked → Type 0
-Turned rank nodes b v s extra w (On t) = TurnOn rank nodes b v s extra w t
-Turned rank nodes b v s extra w Over = TurnOver rank nodes b v s extra w
+abbrev pub Turned : (ℕ → ℕ) → List Node → Basis → List ℕ → Walk → List NodeBeside → List ℕ → Option Walk → Type 0
+Turned rank nodes b v s extra w (Some t) = TurnOn rank nodes b v s extra w t
+Turned rank nodes b v s extra w None = TurnOver rank nodes b v s extra w
 
 -- the node of e is of this kind, on whatever sheet: then the turn is as it should be
-pub record TurnedAs (rank : ℕ → ℕ) (kind : Node) (b : Basis) (v : List ℕ) (s : Walk) (e : NodeBeside) (w : List ℕ) (r : Walked) : Type 0 where
+pub record TurnedAs (rank : ℕ → ℕ) (kind : Node) (b : Basis) (v : List ℕ) (s : Walk) (e : NodeBeside) (w : List ℕ) (r : Option Walk) : Type 0 where
   pub turned : (nodes : List Node) → NodesOf rank b nodes → node_of nodes e.node ≡ kind → Turned rank nodes b v s (e ∷ []) w r

@@ -23,10 +23,3 @@ pub struct Walk {
     pub marks: usize,
     pub top: usize,
 }
-
-// The walk after a turn, or that a cap is passed.
-#[derive(Drop)]
-pub enum Walked {
-    On(Walk),
-    Over,
-}

@@ -1,5 +1,5 @@
 -- Where everything stands in the work slice, phase by phase. src/lib.rt has the same numbers for the code.
-use Rattle.std.specs.Prelude.{ℕ, ◌+◌, ◌*◌, ◌^◌}
+use Rattle.std.specs.Prelude.{ℕ, ◌^◌}
 use Rattle.comparison.specs.SheetLimits.{max_facts}
 use Rattle.comparison.specs.CallLimits.{work_length}
 

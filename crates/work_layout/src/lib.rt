@@ -130,9 +130,5 @@ pub fn clear_work(work: &mut [u32])
     requires { work_end ≤ length work.old }
     ensures { work.new ≡ cleared work.old }
 {
-    let mut i: usize = 0;
-    while i < WORK_END {
-        work[i] = 0;
-        i += 1;
-    }
+    work[..WORK_END].fill(0);
 }
