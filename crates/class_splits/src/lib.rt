@@ -4,7 +4,7 @@
 
 ghost use Rattle.std.specs.Prelude.{◌≡◌, ℕ, ◌+◌, ◌*◌, ◌≤◌, ◌<◌, false, length, set};
 ghost use Rattle.class_splits.specs.ClassedPlaces.{Tells, chosen_in};
-ghost use Rattle.class_splits.specs.LineTests.{lines_held, LineFits, PartFits};
+ghost use Rattle.class_splits.specs.LineTests.{numbers_from, lines_held, LineFits, PartFits};
 ghost use Rattle.class_splits.specs.MemberSplits.{PartFound, MemberReady, MemberSplit};
 ghost use Rattle.work_layout.specs.WorkLayout.{work_end, births_at, chosen_at, member_room};
 
@@ -19,14 +19,34 @@ pub fn put_class(work: &mut [u32], c: usize, from: u32, round: usize, i: usize)
     work[CHOSEN + c] = i as u32;
 }
 
-// The lines of the member at place i.
-fn lines_of(work: &[u32], i: usize) -> &[u32]
-    requires { LineFits work.now i × (work_end ≤ length work.now) }
-    ensures { result.now ≡ lines_held work.now i }
+// Whether k numbers from two places on are the same. A loop: slices' == takes 2 to 4 percent longer on deep chains.
+fn same_numbers(work: &[u32], a: usize, b: usize, k: usize) -> bool
+    requires { (a + k ≤ length work.now) × (b + k ≤ length work.now) }
+    ensures { Tells result (numbers_from work.now a k ≡ numbers_from work.now b k) }
 {
-    let from = LINES + work_layout::first_move(work, i);
-    let end = from + work[LINE_TOTALS + i] as usize;
-    &work[from..end]
+    for i in 0..k {
+        if work[a + i] != work[b + i] {
+            return false;
+        }
+    }
+    true
+}
+
+// Whether the members at places i and j have as many lines, and the same.
+fn equal_lines(work: &[u32], i: usize, j: usize) -> bool
+    requires { LineFits work.now i × LineFits work.now j × (work_end ≤ length work.now) }
+    ensures { Tells result (lines_held work.now i ≡ lines_held work.now j) }
+{
+    let k = work[LINE_TOTALS + i];
+    if k != work[LINE_TOTALS + j] {
+        return false;
+    }
+    same_numbers(
+        work,
+        LINES + work_layout::first_move(work, i),
+        LINES + work_layout::first_move(work, j),
+        k as usize,
+    )
 }
 
 // Whether the members at places i and j have the same lines; one and the same member has.
@@ -34,7 +54,10 @@ fn same_lines(work: &[u32], i: usize, j: usize) -> bool
     requires { LineFits work.now i × LineFits work.now j × (work_end ≤ length work.now) }
     ensures { Tells result (lines_held work.now i ≡ lines_held work.now j) }
 {
-    i == j || lines_of(work, i) == lines_of(work, j)
+    if i == j {
+        return true;
+    }
+    equal_lines(work, i, j)
 }
 
 // Whether class k came from class c and its chosen member has the lines of the member at place i.
