@@ -11,8 +11,8 @@ pub record Shifted (v : List ℕ) (i j : ℕ) (w : List ℕ) : Type 0 where
   pub moved : (k : ℕ) → i ≤ k → k < j → get_or w k 0 ≡ get_or v (k + 1) 0
   pub rest : (k : ℕ) → j ≤ k → get_or w k 0 ≡ get_or v k 0
 
-pub shifted_none : (v : List ℕ) (i : ℕ) → Shifted v i i v
-shifted_none v i = record { long = refl; low = λ k l. refl; moved = λ k l m. absurd (omega arith); rest = λ k l. refl }
+pub shifted_none : (v : List ℕ) (i j : ℕ) → j ≤ i → Shifted v i j v
+shifted_none v i j h = record { long = refl; low = λ k l. refl; moved = λ k l m. absurd (omega arith); rest = λ k l. refl }
 
 -- one place more, where x is put
 pub shifted_next : (v : List ℕ) (i j : ℕ) (w : List ℕ) (x : ℕ) → j < length v

@@ -90,15 +90,18 @@ pub fn put_beside(
     })
 }
 
-// The thread at place i with the others beside it.
+// The thread at place i with the others beside it. Every place is walked, whatever i is, and the thread is read from e: otherwise the
+// array that is shifted stays in memory (docs/PERFORMANCE.md).
 pub fn thread_beside(e: Configuration, i: usize) -> NodeBeside
     requires { (i < e.count) × (e.count ≤ 8) }
     ensures { (node_beside result ≡ thread_at (configuration e) i) × (result.count + 1 ≡ e.count) }
 {
+    let node = e.threads[i] as u16;
     let mut threads = e.threads;
-    let node = threads[i] as u16;
-    for j in i..7 {
-        threads[j] = threads[j + 1];
+    for j in 0..7 {
+        if i <= j {
+            threads[j] = threads[j + 1];
+        }
     }
     let count = e.count - 1;
     NodeBeside {
