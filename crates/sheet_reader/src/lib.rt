@@ -42,11 +42,15 @@ pub fn read_sheet(s: &[u8]) -> Result<Sheet, Refused>
     })
 }
 
-// The sheet with a left and a right start chosen on it, or the first refusal.
+// The sheet with a left and a right start chosen on it, or the first refusal. What read_sheet gave is handed back as it is, so that the
+// sheet is not moved once more.
 pub fn read_choice(s: &[u8], left: usize, right: usize) -> Result<Sheet, Refused>
     ensures { SheetFound (length s.now) (read_choice s.now left right) result }
 {
-    let sheet = read_sheet(s)?;
+    let read = read_sheet(s);
+    let Ok(sheet) = &read else {
+        return read;
+    };
     let starts = usize::from(sheet.start_count);
     if starts <= left {
         return Err(Refusal::AbsentStart.at(0));
@@ -54,5 +58,5 @@ pub fn read_choice(s: &[u8], left: usize, right: usize) -> Result<Sheet, Refused
     if starts <= right {
         return Err(Refusal::AbsentStart.at(1));
     }
-    Ok(sheet)
+    read
 }
