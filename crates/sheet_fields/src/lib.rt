@@ -129,9 +129,15 @@ fn below_at(s: &[u8], bound: u16, at: usize) -> Result<Field, Refused>
     Ok(k)
 }
 
-// The first field of node `number`: a stop has none, tell and ask have a set, both and either a lower node.
+// The first field of node `number`, of this kind: a stop has none, tell and ask have a set, both and either a lower node.
 #[tactic(auto, using(sheet_laws::specs::FieldLaws::first_unused, sheet_laws::specs::FieldLaws::first_set, sheet_laws::specs::FieldLaws::first_below))]
-pub fn first_at(s: &[u8], kind: Kind, facts: u16, number: u16, at: usize) -> Result<Field, Refused>
+pub fn first_of_kind(
+    s: &[u8],
+    kind: Kind,
+    facts: u16,
+    number: u16,
+    at: usize,
+) -> Result<Field, Refused>
     requires { (at ≤ length s.now) × (facts ≤ max_facts) }
     ensures { answer result ≡ first_at (kind_byte kind) facts number s.now at }
 {
@@ -142,9 +148,24 @@ pub fn first_at(s: &[u8], kind: Kind, facts: u16, number: u16, at: usize) -> Res
     }
 }
 
-// The second field of node `number`: stop and tell have none, an ask has any node, both and either a lower one.
+// The first field of node `number`, its kind given as a number.
+#[tactic(auto, using(crate::specs::KindNumbers::least_kind_first))]
+pub fn first_at(s: &[u8], kind: u16, facts: u16, number: u16, at: usize) -> Result<Field, Refused>
+    requires { (at ≤ length s.now) × (facts ≤ max_facts) }
+    ensures { answer result ≡ first_at kind facts number s.now at }
+{
+    first_of_kind(s, Kind::of(kind), facts, number, at)
+}
+
+// The second field of node `number`, of this kind: stop and tell have none, an ask has any node, both and either a lower one.
 #[tactic(auto, using(sheet_laws::specs::FieldLaws::second_unused, sheet_laws::specs::FieldLaws::second_any, sheet_laws::specs::FieldLaws::second_below))]
-pub fn second_at(s: &[u8], kind: Kind, nodes: u16, number: u16, at: usize) -> Result<Field, Refused>
+pub fn second_of_kind(
+    s: &[u8],
+    kind: Kind,
+    nodes: u16,
+    number: u16,
+    at: usize,
+) -> Result<Field, Refused>
     requires { at ≤ length s.now }
     ensures { answer result ≡ second_at (kind_byte kind) nodes number s.now at }
 {
@@ -153,6 +174,15 @@ pub fn second_at(s: &[u8], kind: Kind, nodes: u16, number: u16, at: usize) -> Re
         Kind::Ask => below_at(s, nodes, at),
         Kind::Both | Kind::Either => below_at(s, number, at),
     }
+}
+
+// The second field of node `number`, its kind given as a number.
+#[tactic(auto, using(crate::specs::KindNumbers::least_kind_second))]
+pub fn second_at(s: &[u8], kind: u16, nodes: u16, number: u16, at: usize) -> Result<Field, Refused>
+    requires { at ≤ length s.now }
+    ensures { answer result ≡ second_at kind nodes number s.now at }
+{
+    second_of_kind(s, Kind::of(kind), nodes, number, at)
 }
 
 // A thread of a start: any node of the sheet.
