@@ -1,10 +1,10 @@
 // The fields of a sheet: each gives its value and the place after it, or the refusal of document 01.
 #![tactic(auto)]
 
-ghost use Rattle.std.specs.Prelude.{◌≡◌, ◌+◌, ◌≤◌, ◌<◌, length};
+ghost use Rattle.std.specs.Prelude.{◌≡◌, ℕ, ◌+◌, ◌≤◌, ◌<◌, length};
 ghost use Rattle.refusals.specs.Numbers.{number};
 ghost use Rattle.sheet_types.specs.KindBytes.{kind_byte};
-ghost use Rattle.sheet_fields.specs.Answers.{answer, kind_answer};
+ghost use Rattle.sheet_fields.specs.Answers.{answer, answer_or, kind_answer};
 ghost use Rattle.sheet_laws.specs.SheetLimits.{max_facts, name_length};
 ghost use Rattle.sheet_laws.specs.Reading.{byte_at, word_at, count_at, set_at, kind_at, first_at, second_at, thread_at, printable, name_bytes, name_at, names_from, facts_at};
 ghost use Rattle.sheet_laws.specs.NodeFields.{unused_at, below_at};
@@ -53,6 +53,18 @@ fn word_at(s: &[u8], at: usize) -> Result<Field, Refused>
     })
 }
 
+// A count from low to high, and none where the count is outside.
+pub fn counted_at(s: &[u8], at: usize, low: u16, high: u16) -> Result<Option<Field>, Refused>
+    requires { at ≤ length s.now }
+    ensures { (n : ℕ) → answer_or n at result ≡ count_at low high n s.now at }
+{
+    let n = byte_at(s, at)?;
+    if n.value < low || high < n.value {
+        return Ok(None);
+    }
+    Ok(Some(n))
+}
+
 // A count from low to high, refused with its section's number.
 pub fn count_at(
     s: &[u8],
@@ -64,11 +76,10 @@ pub fn count_at(
     requires { at ≤ length s.now }
     ensures { answer result ≡ count_at low high (number refusal) s.now at }
 {
-    let n = byte_at(s, at)?;
-    if n.value < low || high < n.value {
-        return Err(refusal.at(at));
+    match counted_at(s, at, low, high)? {
+        Some(n) => Ok(n),
+        None => Err(refusal.at(at)),
     }
-    Ok(n)
 }
 
 // A set of the sheet's facts: no fact from `facts` on is in it.
