@@ -12,8 +12,8 @@ ghost use Rattle.movable_nodes.specs.Movability.{marked};
 
 use sheet_types::{Kind, TABLE_END};
 
-// Whether a node of this kind with these fields can move, where the table has the same of the nodes it is made of.
-pub fn movable_by(table: &[u8; TABLE_END], kind: Kind, first: u16, second: u16) -> bool
+// Whether a node of this kind, with these fields, can move, where the table has the same of the nodes it is made of.
+pub fn movable_of_kind(table: &[u8; TABLE_END], kind: Kind, first: u16, second: u16) -> bool
     requires { LowerNames max_nodes (node_held (kind_byte kind) first second) }
     ensures { result ≡ movable_of (marked (movables_of table.now)) (node_held (kind_byte kind) first second) }
 {
@@ -25,4 +25,13 @@ pub fn movable_by(table: &[u8; TABLE_END], kind: Kind, first: u16, second: u16) 
                 || sheet_types::can_move(table, usize::from(second))
         }
     }
+}
+
+// The same of a node with its kind given as a number.
+#[tactic(auto, using(sheet_types::specs::KindNumberLaws::least_kind_held))]
+pub fn movable_by(table: &[u8; TABLE_END], kind: u16, first: u16, second: u16) -> bool
+    requires { LowerNames max_nodes (node_held kind first second) }
+    ensures { result ≡ movable_of (marked (movables_of table.now)) (node_held kind first second) }
+{
+    movable_of_kind(table, Kind::of(kind), first, second)
 }

@@ -59,8 +59,8 @@ fn node_at(
     ensures { NodeFound facts (rules_in rules.now rule_count) nodes number s.now at result }
 {
     let kind = sheet_fields::kind_at(s, at)?;
-    let first = sheet_fields::first_at(s, kind.kind, facts, number, kind.next)?;
-    let second = sheet_fields::second_at(s, kind.kind, nodes, number, first.next)?;
+    let first = sheet_fields::first_of_kind(s, kind.kind, facts, number, kind.next)?;
+    let second = sheet_fields::second_of_kind(s, kind.kind, nodes, number, first.next)?;
     Ok(NodeFields {
         kind: kind.kind,
         first: held_first(rules, rule_count, kind.kind, first.value),
@@ -74,7 +74,7 @@ fn put_node(table: &mut [u8; TABLE_END], k: usize, kind: Kind, first: u16, secon
     requires { (k < max_nodes) × (second < 256) × (length table.old ≡ table_end) × LowerNames max_nodes (node_held (kind_byte kind) first second) }
     ensures { NodePut table.old k (kind_byte kind) first second table.new }
 {
-    let moves = movable_nodes::movable_by(table, kind, first, second);
+    let moves = movable_nodes::movable_of_kind(table, kind, first, second);
     table[KINDS + k] = u8::from(kind);
     table[FIRST_LOWS + k] = (first % 256) as u8;
     table[FIRST_HIGHS + k] = (first / 256) as u8;
@@ -99,7 +99,7 @@ fn nodes_from(
     for i in 0..n {
         let node = node_at(s, facts, rules, rule_count, n, i, next)?;
         let k = usize::from(i);
-        let count = node_opening::open_node(&mut table, node.kind, node.first, node.second, k);
+        let count = node_opening::open_of_kind(&mut table, node.kind, node.first, node.second, k);
         if MAX_THREADS < count {
             return Err(Refusal::WideNode.at(next));
         }

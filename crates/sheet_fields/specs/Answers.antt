@@ -1,5 +1,5 @@
 -- What the answers of readers stand for: the readings of document 01.
-use Rattle.std.specs.Prelude.{ℕ, Result, Ok, Err}
+use Rattle.std.specs.Prelude.{ℕ, Option, Some, None, Result, Ok, Err}
 use Rattle.sheet_laws.specs.Reading.{Reading, got, refused}
 use Rattle.refusals.specs.Numbers.{number}
 use Rattle.refusals.specs.declared.Refused.{Refused}
@@ -15,6 +15,12 @@ read_as value next (Err e) = refused (number e.refusal) e.place
 -- a field
 abbrev pub answer : Result Field Refused → Reading ℕ
 answer = read_as (λ f. f.value) (λ f. f.next)
+
+-- a field, and where there is none a refusal with this number at this place
+abbrev pub answer_or : ℕ → ℕ → Result (Option Field) Refused → Reading ℕ
+answer_or n at (Ok (Some f)) = got f.value f.next
+answer_or n at (Ok None) = refused n at
+answer_or n at (Err e) = refused (number e.refusal) e.place
 
 -- a kind
 abbrev pub kind_answer : Result KindField Refused → Reading ℕ

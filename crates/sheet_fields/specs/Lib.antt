@@ -7,5 +7,6 @@ pub use Rattle.sheet_laws.proofs.SectionLaws
 pub use Rattle.sheet_laws.specs.StoredRecords
 pub use Rattle.sheet_laws.specs.Stores
 pub mod AbsentFacts
+pub mod KindNumbers
 pub mod Answers
 pub mod AnswerLaws

@@ -1,10 +1,10 @@
 // The fields of a sheet: each gives its value and the place after it, or the refusal of document 01.
 #![tactic(auto)]
 
-ghost use Rattle.std.specs.Prelude.{◌≡◌, ◌+◌, ◌≤◌, ◌<◌, length};
+ghost use Rattle.std.specs.Prelude.{◌≡◌, ℕ, ◌+◌, ◌≤◌, ◌<◌, length};
 ghost use Rattle.refusals.specs.Numbers.{number};
 ghost use Rattle.sheet_types.specs.KindBytes.{kind_byte};
-ghost use Rattle.sheet_fields.specs.Answers.{answer, kind_answer};
+ghost use Rattle.sheet_fields.specs.Answers.{answer, answer_or, kind_answer};
 ghost use Rattle.sheet_laws.specs.SheetLimits.{max_facts, name_length};
 ghost use Rattle.sheet_laws.specs.Reading.{byte_at, word_at, count_at, set_at, kind_at, first_at, second_at, thread_at, printable, name_bytes, name_at, names_from, facts_at};
 ghost use Rattle.sheet_laws.specs.NodeFields.{unused_at, below_at};
@@ -53,6 +53,18 @@ fn word_at(s: &[u8], at: usize) -> Result<Field, Refused>
     })
 }
 
+// A count from low to high, and none where the count is outside.
+pub fn counted_at(s: &[u8], at: usize, low: u16, high: u16) -> Result<Option<Field>, Refused>
+    requires { at ≤ length s.now }
+    ensures { (n : ℕ) → answer_or n at result ≡ count_at low high n s.now at }
+{
+    let n = byte_at(s, at)?;
+    if n.value < low || high < n.value {
+        return Ok(None);
+    }
+    Ok(Some(n))
+}
+
 // A count from low to high, refused with its section's number.
 pub fn count_at(
     s: &[u8],
@@ -64,11 +76,10 @@ pub fn count_at(
     requires { at ≤ length s.now }
     ensures { answer result ≡ count_at low high (number refusal) s.now at }
 {
-    let n = byte_at(s, at)?;
-    if n.value < low || high < n.value {
-        return Err(refusal.at(at));
+    match counted_at(s, at, low, high)? {
+        Some(n) => Ok(n),
+        None => Err(refusal.at(at)),
     }
-    Ok(n)
 }
 
 // A set of the sheet's facts: no fact from `facts` on is in it.
@@ -129,9 +140,15 @@ fn below_at(s: &[u8], bound: u16, at: usize) -> Result<Field, Refused>
     Ok(k)
 }
 
-// The first field of node `number`: a stop has none, tell and ask have a set, both and either a lower node.
+// The first field of node `number`, of this kind: a stop has none, tell and ask have a set, both and either a lower node.
 #[tactic(auto, using(sheet_laws::specs::FieldLaws::first_unused, sheet_laws::specs::FieldLaws::first_set, sheet_laws::specs::FieldLaws::first_below))]
-pub fn first_at(s: &[u8], kind: Kind, facts: u16, number: u16, at: usize) -> Result<Field, Refused>
+pub fn first_of_kind(
+    s: &[u8],
+    kind: Kind,
+    facts: u16,
+    number: u16,
+    at: usize,
+) -> Result<Field, Refused>
     requires { (at ≤ length s.now) × (facts ≤ max_facts) }
     ensures { answer result ≡ first_at (kind_byte kind) facts number s.now at }
 {
@@ -142,9 +159,24 @@ pub fn first_at(s: &[u8], kind: Kind, facts: u16, number: u16, at: usize) -> Res
     }
 }
 
-// The second field of node `number`: stop and tell have none, an ask has any node, both and either a lower one.
+// The first field of node `number`, its kind given as a number.
+#[tactic(auto, using(crate::specs::KindNumbers::least_kind_first))]
+pub fn first_at(s: &[u8], kind: u16, facts: u16, number: u16, at: usize) -> Result<Field, Refused>
+    requires { (at ≤ length s.now) × (facts ≤ max_facts) }
+    ensures { answer result ≡ first_at kind facts number s.now at }
+{
+    first_of_kind(s, Kind::of(kind), facts, number, at)
+}
+
+// The second field of node `number`, of this kind: stop and tell have none, an ask has any node, both and either a lower one.
 #[tactic(auto, using(sheet_laws::specs::FieldLaws::second_unused, sheet_laws::specs::FieldLaws::second_any, sheet_laws::specs::FieldLaws::second_below))]
-pub fn second_at(s: &[u8], kind: Kind, nodes: u16, number: u16, at: usize) -> Result<Field, Refused>
+pub fn second_of_kind(
+    s: &[u8],
+    kind: Kind,
+    nodes: u16,
+    number: u16,
+    at: usize,
+) -> Result<Field, Refused>
     requires { at ≤ length s.now }
     ensures { answer result ≡ second_at (kind_byte kind) nodes number s.now at }
 {
@@ -153,6 +185,15 @@ pub fn second_at(s: &[u8], kind: Kind, nodes: u16, number: u16, at: usize) -> Re
         Kind::Ask => below_at(s, nodes, at),
         Kind::Both | Kind::Either => below_at(s, number, at),
     }
+}
+
+// The second field of node `number`, its kind given as a number.
+#[tactic(auto, using(crate::specs::KindNumbers::least_kind_second))]
+pub fn second_at(s: &[u8], kind: u16, nodes: u16, number: u16, at: usize) -> Result<Field, Refused>
+    requires { at ≤ length s.now }
+    ensures { answer result ≡ second_at kind nodes number s.now at }
+{
+    second_of_kind(s, Kind::of(kind), nodes, number, at)
 }
 
 // A thread of a start: any node of the sheet.

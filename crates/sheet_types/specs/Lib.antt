@@ -22,4 +22,5 @@ pub mod KindBytes
 pub mod NodeTable
 pub mod NodeTableLaws
 pub mod HeldSheet
+pub mod KindNumberLaws
 pub mod AddedStore

@@ -1,7 +1,7 @@
 // How a sheet that was read is held: types, the limits of a sheet, and a configuration as three numbers and back.
 #![tactic(auto)]
 
-ghost use Rattle.std.specs.Prelude.{◌≡◌, ◌≤◌, ◌<◌, length, get_or, nat_eq};
+ghost use Rattle.std.specs.Prelude.{◌≡◌, ◌≤◌, ◌<◌, min, length, get_or, nat_eq};
 ghost use Rattle.std.specs.Int.Bits.{bit_or};
 ghost use Rattle.sheet_reading.specs.SheetLimits.{max_nodes};
 ghost use Rattle.packing.specs.Packing.{stands_for, PackedIn};
@@ -27,6 +27,21 @@ pub enum Kind {
     Ask,
     Both,
     Either,
+}
+
+impl Kind {
+    // The kind that a number is read as: a stop, a tell, an ask and a both for 0 to 3, and an either for every other.
+    pub fn of(number: u16) -> Kind
+        ensures { kind_byte result ≡ min number 4 }
+    {
+        match number {
+            0 => Kind::Stop,
+            1 => Kind::Tell,
+            2 => Kind::Ask,
+            3 => Kind::Both,
+            _ => Kind::Either,
+        }
+    }
 }
 
 // The kind byte.

@@ -22,8 +22,8 @@ returns-in_err-kind c =
     rw (p.1, p.2)
     (node_refused a.facts (rules_in a.rules.now a.rule_count) a.nodes a.number a.s.now a.at _ (sym (refused_then _ _ c.in_err-kind.ensures)))
 
-pub first_at-requires : goal.first_at-requires
-first_at-requires c = (((kind_gets c.args.s.now c.args.at).holds _ _ (sym c.in_ok-kind.ensures)).0.within, search rules)
+pub first_of_kind-requires : goal.first_of_kind-requires
+first_of_kind-requires c = (((kind_gets c.args.s.now c.args.at).holds _ _ (sym c.in_ok-kind.ensures)).0.within, search rules)
 
 pub returns-in_err-first : goal.returns-in_err-first
 unfolding node_fields_at
@@ -34,8 +34,8 @@ returns-in_err-first c =
     (node_refused a.facts (rules_in a.rules.now a.rule_count) a.nodes a.number a.s.now a.at _
     (got_then _ _ c.in_ok-kind.ensures ∙ sym (refused_then _ _ c.in_err-first.ensures)))
 
-pub second_at-requires : goal.second_at-requires
-second_at-requires c =
+pub second_of_kind-requires : goal.second_of_kind-requires
+second_of_kind-requires c =
     let a = c.args in
     let kind = c.in_ok-kind.kind in
     ((first_gets (kind_byte kind.kind) a.facts a.number a.s.now kind.next).holds _ _ (sym c.in_ok-first.ensures)).within

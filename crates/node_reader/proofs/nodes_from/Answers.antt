@@ -25,8 +25,8 @@ returns-in_err-node c =
     (so_far_refused a.facts rules a.n a.s.now a.at l.i l.next l.table l.invariant.1 _ (omega arith)
     (next_refused a.facts rules a.n a.s.now (nodes_of l.table) (opened_of l.table) l.i l.next l.invariant.1.table.opened _ c.in_err-node.ensures))
 
-pub open_node-count-requires : goal.open_node-count-requires
-open_node-count-requires c =
+pub open_of_kind-count-requires : goal.open_of_kind-count-requires
+open_of_kind-count-requires c =
     let a = c.args in
     let l = c.loop-i in
     let k : c.from-k.result ≡ l.i = omega arith in
@@ -39,7 +39,7 @@ pub returns-then-count-gt-MAX_THREADS : goal.returns-then-count-gt-MAX_THREADS
 returns-then-count-gt-MAX_THREADS c =
     let a = c.args in
     let l = c.loop-i in
-    let o = c.open_node-count in
+    let o = c.open_of_kind-count in
     let rules = rules_in a.rules.now a.rule_count in
     let k : c.from-k.result ≡ l.i = omega arith in
     rw c.at.ensures
@@ -58,7 +58,7 @@ put_node-requires c =
     l.invariant.1.table.opened _ found in (
       omega arith,
       second_byte found.second c.requires.4 (omega arith),
-      c.open_node-count.ensures.long ∙ l.invariant.1.room,
+      c.open_of_kind-count.ensures.long ∙ l.invariant.1.room,
       lower_all l.i (node_held (kind_byte node.kind) node.first node.second) (omega arith) fits.0,
     )
 
@@ -66,7 +66,7 @@ pub loop-i-preserved : goal.loop-i-preserved
 loop-i-preserved c =
     let a = c.args in
     let l = c.loop-i in
-    let o = c.open_node-count in
+    let o = c.open_of_kind-count in
     let rules = rules_in a.rules.now a.rule_count in
     let k : c.from-k.result ≡ l.i = omega arith in
     let one = next_few a.facts rules a.n a.s.now l.table l.i l.next l.invariant.1.table _ c.in_ok-node.ensures

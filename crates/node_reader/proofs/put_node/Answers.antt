@@ -13,6 +13,6 @@ marks false = refl
 pub returns : goal.returns
 returns c =
     let a = c.args in
-    let m = c.movable_by-moves in
+    let m = c.movable_of_kind-moves in
     rw c.from.ensures
     (node_put a.table.now a.k (kind_byte a.kind) a.first a.second _ c.requires.0 c.requires.2 (c.from-2.ensures ∙ marks m.result ∙ ap mark m.ensures))

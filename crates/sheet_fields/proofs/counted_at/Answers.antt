@@ -2,7 +2,7 @@
 use Rattle.std.proofs.Common.{arith}
 use Rattle.std.proofs.lemmas.Grind.{common_steps}
 use Rattle.sheet_laws.specs.Reading.{count_at}
-use Rattle.sheet_fields.proofs.count_at.Goals as goal
+use Rattle.sheet_fields.proofs.counted_at.Goals as goal
 
 pub returns-in_err-n : goal.returns-in_err-n
 unfolding count_at
