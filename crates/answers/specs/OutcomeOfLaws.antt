@@ -11,15 +11,11 @@ use Rattle.answers.specs.OutcomeOf.{CallResult, outcome_of}
 one_error : {e f : Refused} → number e.refusal ≡ number f.refusal → e.place ≡ f.place → e ≡ f
 one_error n p = ap₂ (λ (r : Refusal) (k : ℕ). record { refusal = r; place = k }) (one_number n) p
 
-module _ {A : Type 0} where
-  one_value : (r s : CallResult A) → outcome_of r ≡ outcome_of s → r ≡ s
-  one_value (Ok x) (Ok y) e = let same : x ≡ y = cc in ap Ok same
-  one_value (Ok x) (Err f) e = let z : ◌≡◌ {A = ℕ} 0 1 = cc in absurd (omega arith)
-  one_value (Err d) (Ok y) e = let z : ◌≡◌ {A = ℕ} 0 1 = cc in absurd (omega arith)
-  one_value (Err d) (Err f) e =
-      let n : number d.refusal ≡ number f.refusal = cc in
-      let p : d.place ≡ f.place = cc in
-      ap Err (one_error n p)
-
-  pub one_returned : {r s : CallResult A} → outcome_of r ≡ outcome_of s → r ≡ s
-  one_returned {r} {s} e = one_value r s e
+pub one_returned : {A : Type 0} {r s : CallResult A} → outcome_of r ≡ outcome_of s → r ≡ s
+one_returned {r = Ok x} {s = Ok y} e = let same : x ≡ y = cc in ap Ok same
+one_returned {r = Ok x} {s = Err f} e = let z : ◌≡◌ {A = ℕ} 0 1 = cc in absurd (omega arith)
+one_returned {r = Err d} {s = Ok y} e = let z : ◌≡◌ {A = ℕ} 0 1 = cc in absurd (omega arith)
+one_returned {r = Err d} {s = Err f} e =
+    let n : number d.refusal ≡ number f.refusal = cc in
+    let p : d.place ≡ f.place = cc in
+    ap Err (one_error n p)
