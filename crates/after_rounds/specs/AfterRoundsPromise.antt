@@ -11,6 +11,7 @@ use Rattle.answers.specs.Set.{explored}
 use Rattle.answers.specs.SheetTransitions.{transitions}
 use Rattle.answers.specs.Outcome.{cleared, Outcome, refusal, reported}
 use Rattle.answers.specs.Promise.{RefusesBy, GivesBy, PromiseBy, ResultRound, SetListed, starts_of}
+use Rattle.answers.specs.OutcomeOf.{CallResult, outcome_of}
 use Rattle.answers.specs.declared.Reported.{Reported}
 use Rattle.call_promise.specs.CallPromise.{report_read}
 use Rattle.call_promise.specs.TwoCalls.{OneWritten, LowerBy}
@@ -79,6 +80,10 @@ pub record ReachedPromise (l : Limits) (bytes : List ℕ) (left right k : ℕ) (
 abbrev pub RoundsPromise : Limits → List ℕ → ℕ → ℕ → ℕ → List ℕ → List ℕ → List ℕ → List ℕ → Outcome Reached → Type 1
 RoundsPromise l bytes left right k =
     PromiseBy refusal (RefusesAfter l bytes left right k) reported reached_of (GivesAfter l bytes left right k) (ReachedPromise l bytes left right k)
+
+-- The same of the value that the code returns.
+abbrev pub RoundsReturnedPromise : Limits → List ℕ → ℕ → ℕ → ℕ → List ℕ → List ℕ → List ℕ → List ℕ → CallResult Reached → Type 1
+RoundsReturnedPromise l bytes left right k v before w after r = RoundsPromise l bytes left right k v before w after (outcome_of r)
 
 -- ---- the card's sentences
 -- Two answers on the same starts, y after at least as many rounds as x: SAME and DIFF stay.

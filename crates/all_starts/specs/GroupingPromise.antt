@@ -9,6 +9,7 @@ use Rattle.answers.specs.Classes.{class_of}
 use Rattle.answers.specs.Set.{explored}
 use Rattle.answers.specs.Outcome.{cleared, Outcome, refusal, reported}
 use Rattle.answers.specs.Promise.{RefusesBy, GivesBy, PromiseBy, ResultRound, Classified}
+use Rattle.answers.specs.OutcomeOf.{CallResult, outcome_of}
 use Rattle.answers.specs.declared.Reported.{Reported}
 use Rattle.all_starts.specs.Grouping.{Grouping, grouping_on, grouping_bytes, grouping_length}
 use Rattle.all_starts.specs.GroupingRead.{grouped_of, grouping_read}
@@ -49,6 +50,10 @@ pub record GroupingPromise (l : Limits) (bytes v before w after : List ℕ) (x :
 -- and no other, and otherwise the grouping.
 abbrev pub AllPromise : Limits → List ℕ → List ℕ → List ℕ → List ℕ → List ℕ → Outcome Grouped → Type 1
 AllPromise l bytes = PromiseBy refusal (RefusesAll l bytes) reported grouped_of (GivesAll l bytes) (GroupingPromise l bytes)
+
+-- The same of the value that the code returns.
+abbrev pub AllReturnedPromise : Limits → List ℕ → List ℕ → List ℕ → List ℕ → List ℕ → CallResult Grouped → Type 1
+AllReturnedPromise l bytes v before w after r = AllPromise l bytes v before w after (outcome_of r)
 
 -- ---- beside the comparing call
 -- Card 1's sentence, where neither call is refused: of the bytes `after` and of what both returned. Two starts share a class in what is

@@ -4,9 +4,11 @@ use Rattle.std.specs.Prelude.{◌≡◌, List, ◌++◌, ℕ, length, drop}
 use Rattle.std.proofs.Common.{sym, ap, ◌∙◌}
 use Rattle.answers.specs.SheetRead.{one_sheet}
 use Rattle.answers.specs.CallLimits.{Limits}
+use Rattle.answers.specs.OutcomeOf.{CallResult}
+use Rattle.answers.specs.OutcomeOfLaws.{one_returned}
 use Rattle.promise_laws.specs.PromiseAlone.{promise_alone}
 use Rattle.all_starts.specs.Grouping.{Grouping, grouping_bytes}
-use Rattle.all_starts.specs.GroupingPromise.{grouping_for, GivesAll, GroupingPromise, AllPromise}
+use Rattle.all_starts.specs.GroupingPromise.{grouping_for, GivesAll, GroupingPromise, AllPromise, AllReturnedPromise}
 use Rattle.all_starts.specs.declared.Grouped.{Grouped}
 use Rattle.all_theorem.specs.AllTheorem.{all_decides}
 
@@ -26,3 +28,9 @@ pub all_alone : (l : Limits) (bytes v before : List ℕ) {w after : List ℕ} {a
     → AllPromise l bytes v before w after answer → AllPromise l bytes v before w2 after2 answer2
     → (answer ≡ answer2) × (after ≡ after2) × (w ≡ w2)
 all_alone l bytes v before a b = promise_alone (all_decides l bytes (length v) (length before)) (λ x. grouping_fixes) a b
+
+-- so the promise fixes the value that the code returns
+pub all_returned_alone : (l : Limits) (bytes v before : List ℕ) {w after : List ℕ} {r : CallResult Grouped} {w2 after2 : List ℕ} {r2 : CallResult Grouped}
+    → AllReturnedPromise l bytes v before w after r → AllReturnedPromise l bytes v before w2 after2 r2 → (r ≡ r2) × (after ≡ after2) × (w ≡ w2)
+all_returned_alone l bytes v before {r = r} {r2 = r2} a b =
+    let o = all_alone l bytes v before a b in (one_returned {r = r} {s = r2} o.0, o.1, o.2)

@@ -2,11 +2,11 @@
 #![tactic(auto)]
 
 ghost use Rattle.std.specs.Prelude.{◌≡◌};
-ghost use Rattle.answers.specs.OutcomeOf.{outcome_of};
+ghost use Rattle.answers.specs.OutcomeOf.{outcome_with};
 ghost use Rattle.answer_numbers.specs.AnswerNumbers.{same_number_lem, outcome_number, answer_numbers};
 
 use answers::Reported;
-use refusals::Refused;
+use refusals::Refuses;
 
 // 0 for SAME, 1 for DIFF.
 fn verdict_number(same: bool) -> usize
@@ -16,18 +16,18 @@ fn verdict_number(same: bool) -> usize
 }
 
 // 0 for what any call gives, else the refusal's number.
-pub fn outcome_number<T: Copy>(r: Result<T, Refused>) -> u32
-    ensures { result ≡ outcome_number (outcome_of r) }
+pub fn outcome_number<T: Copy, E: Refuses>(r: Result<T, E>) -> u32
+    ensures { result ≡ outcome_number (outcome_with E.number_of E.place_of r) }
 {
     match r {
         Ok(_) => 0,
-        Err(refused) => u32::from(u8::from(refused.refusal)),
+        Err(refused) => u32::from(refused.refusal_number()),
     }
 }
 
 // Verdict, round, the places of both starts, the report's length, the refusal's place; 0 for what does not apply.
-pub fn answer_numbers(r: Result<Reported, Refused>) -> [usize; 6]
-    ensures { result ≡ answer_numbers (outcome_of r) }
+pub fn answer_numbers<E: Refuses>(r: Result<Reported, E>) -> [usize; 6]
+    ensures { result ≡ answer_numbers (outcome_with E.number_of E.place_of r) }
 {
     match r {
         Ok(x) => [
@@ -38,6 +38,6 @@ pub fn answer_numbers(r: Result<Reported, Refused>) -> [usize; 6]
             x.length,
             0,
         ],
-        Err(refused) => [0, 0, 0, 0, 0, refused.place],
+        Err(refused) => [0, 0, 0, 0, 0, refused.refusal_place()],
     }
 }

@@ -24,5 +24,6 @@ pub use Rattle.comparison.specs.Stores
 pub use Rattle.comparison.specs.Trail
 pub use Rattle.comparison.specs.WellFormed
 pub mod OutcomeOf
+pub mod OutcomeOfLaws
 pub mod Returned
 pub mod ReadBack

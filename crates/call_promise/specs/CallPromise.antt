@@ -9,6 +9,7 @@ use Rattle.answers.specs.Report as spec
 use Rattle.answers.specs.Report.{Verdict, SAME, DIFF, report_bytes, report_length}
 use Rattle.answers.specs.Outcome.{cleared, Outcome, refusal, reported}
 use Rattle.answers.specs.Promise.{PromiseBy, Refuses, Reports, Faithful}
+use Rattle.answers.specs.OutcomeOf.{CallResult, outcome_of}
 use Rattle.answers.specs.ReadBack.{read_back_lem}
 use Rattle.answers.specs.declared.Reported.{Reported}
 use Rattle.answers.specs.Returned.{returned_of}
@@ -35,3 +36,7 @@ pub record ReportPromise (l : Limits) (bytes : List ℕ) (left right : ℕ) (v b
 abbrev pub CallPromise : Limits → List ℕ → ℕ → ℕ → List ℕ → List ℕ → List ℕ → List ℕ → Outcome Reported → Type 1
 CallPromise l bytes left right =
     PromiseBy refusal (Refuses l bytes left right) reported returned_of (Reports l bytes left right) (ReportPromise l bytes left right)
+
+-- The same of the value that the code returns.
+abbrev pub ReturnedPromise : Limits → List ℕ → ℕ → ℕ → List ℕ → List ℕ → List ℕ → List ℕ → CallResult Reported → Type 1
+ReturnedPromise l bytes left right v before w after r = CallPromise l bytes left right v before w after (outcome_of r)

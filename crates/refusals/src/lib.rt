@@ -1,7 +1,7 @@
 // The refusals, each named once, their numbers, and an error: what is refused and the place.
 #![tactic(auto)]
 
-ghost use Rattle.std.specs.Prelude.{◌≡◌};
+ghost use Rattle.std.specs.Prelude.{◌≡◌, ℕ};
 ghost use Rattle.refusals.specs.Numbers.{number};
 
 #[derive(Clone, Copy, PartialEq, Eq, Debug)]
@@ -83,5 +83,49 @@ impl Refused {
         ensures { result ≡ number self.refusal }
     {
         u8::from(self.refusal)
+    }
+}
+
+// What an error says of a refusal: its number and the place.
+pub trait Refuses: Copy {
+    ghost number_of: { Self → ℕ };
+
+    ghost place_of: { Self → ℕ };
+
+    // The number.
+    fn refusal_number(self) -> u8
+        ensures { result ≡ number_of self };
+
+    // The place.
+    fn refusal_place(self) -> usize
+        ensures { result ≡ place_of self };
+}
+
+impl Refuses for Refused {
+    ghost number_of = { λ r. number r.refusal };
+
+    ghost place_of = { λ r. r.place };
+
+    fn refusal_number(self) -> u8 {
+        self.number()
+    }
+
+    fn refusal_place(self) -> usize {
+        self.place
+    }
+}
+
+// Any number with any place.
+impl Refuses for (u8, usize) {
+    ghost number_of = { λ r. r.0 };
+
+    ghost place_of = { λ r. r.1 };
+
+    fn refusal_number(self) -> u8 {
+        self.0
+    }
+
+    fn refusal_place(self) -> usize {
+        self.1
     }
 }
