@@ -1,7 +1,7 @@
 -- From the set that the call begins with, and the grouping over it, to the outcome of the call.
-use Rattle.std.specs.Prelude.{◌≡◌, ℕ, ◌≤◌, ◌<◌, length, get_or, Result, Ok, Err, IfOk}
+use Rattle.std.specs.Prelude.{◌≡◌, ℕ, ◌≤◌, ◌<◌, length, get_or, Ok, Err}
 use Rattle.std.proofs.Math.Path.{refl}
-use Rattle.std.proofs.Common.{ap, subst, arith}
+use Rattle.std.proofs.Common.{subst, arith}
 use mathlib.Core.List.{List, [], Memᴰ}
 use Rattle.collected_moves.specs.ListPlaces.{get_d_in}
 use Rattle.call_frame.specs.Sheet as spec
@@ -13,8 +13,9 @@ use Rattle.work_layout.specs.WorkLayout.{work_end}
 use Rattle.set_grouping.specs.RoundLayout.{held_found}
 use Rattle.refusals.specs.Numbers.{number}
 use Rattle.refusals.specs.declared.Refused.{Refused}
+use Rattle.call_frame.specs.SetSize.{SetSize}
 use Rattle.call_frame.specs.declared.AllStarted.{AllStarted}
-use Rattle.call_frame.specs.Begun.{StartsListed, all_size, AllBegun}
+use Rattle.call_frame.specs.Begun.{StartsListed, AllBegun}
 use Rattle.call_frame.specs.BegunLaws.{sheet_read_lem, GoesOn, begun_on}
 use Rattle.call_frame.specs.Answered.{made_on, answered, answered_refused, answered_made}
 use Rattle.set_grouping.specs.GroupingMade.{AllHeld, GroupingReady, GroupingMade}
@@ -33,26 +34,26 @@ module _ (l : Limits) (bytes : List ℕ) where
   unfolding compare_all_with
   all_framed work room = refl
 
-  module _ (v before w : List ℕ) (r : Result AllStarted Refused) (x : AllBegun l bytes v w r) where
+  module _ (v before w : List ℕ) (r : AllStarted) (x : AllBegun l bytes v w r) where
     -- the call is refused before anything is done with a set
-    pub all_call_refused : {e : Refused} → r ≡ Err e
+    pub all_call_refused : {e : Refused} → r.begun ≡ Err e
         → ComparedAll (compare_all_with l bytes (length v) (length before)) v before w before (refusal (number e.refusal) e.place)
     all_call_refused {e} is =
         subst (λ (o : Groups). ComparedAll o v before w before (refusal (number e.refusal) e.place)) (all_framed (length v) (length before))
-        (answered_refused grouping_bytes groups_returned grouping_on (sheet_read_lem bytes) l all_starts x.begun (ap all_size is))
+        (answered_refused grouping_bytes groups_returned grouping_on (sheet_read_lem bytes) l all_starts x.begun is)
 
-    module _ {s : AllStarted} (is : r ≡ Ok s) where
+    module _ {size : SetSize} (is : r.begun ≡ Ok size) where
       abbrev n : ℕ
-      n = s.size.members
+      n = size.members
 
       abbrev m : ℕ
-      m = s.size.moves
+      m = size.moves
 
       on : GoesOn (made_on grouping_bytes groups_returned grouping_on (sheet_read_lem bytes) l all_starts (length before)) (sheet_read_lem bytes) l all_starts v w n m
-      on = begun_on (made_on grouping_bytes groups_returned grouping_on (sheet_read_lem bytes) l all_starts (length before)) (sheet_read_lem bytes) l all_starts x.begun (ap all_size is)
+      on = begun_on (made_on grouping_bytes groups_returned grouping_on (sheet_read_lem bytes) l all_starts (length before)) (sheet_read_lem bytes) l all_starts x.begun is
 
-      starts : StartsListed on.sheet.starts s
-      starts = subst (λ (z : Result AllStarted Refused). IfOk z (StartsListed on.sheet.starts)) is (x.starts on.sheet on.end on.read)
+      starts : StartsListed on.sheet.starts r
+      starts = x.starts on.sheet on.end on.read
 
       abbrev set : List spec.Configuration
       set = explored on.sheet l on.sheet.starts
@@ -65,7 +66,7 @@ module _ (l : Limits) (bytes : List ℕ) where
           get_d_in on.sheet.starts 0 (record { store = 0; threads = [] }) (omega (arith, on.fine.within.some_starts)) in
           omega (arith, (held_found on.sheet set w n m on.whole.held first (explored_seeds on.sheet l on.sheet.starts first there)).0)
 
-      all_held : AllHeld on.sheet set w n m s.starts s.count
+      all_held : AllHeld on.sheet set w n m r.starts r.count
       all_held =
           let sheet : spec.Sheet = on.sheet in
           record {
@@ -81,16 +82,16 @@ module _ (l : Limits) (bytes : List ℕ) where
           }
 
       -- the grouping can be made
-      pub all_call_ready : GroupingReady w n m s.starts s.count
+      pub all_call_ready : GroupingReady w n m r.starts r.count
       all_call_ready =
           record { sheet = on.sheet; set = set; all = all_held; count = starts.few; threads = starts.threads }
 
       -- the work slice can be cleared after it
-      pub all_call_room : {z after : List ℕ} {a : Outcome Grouped} → GroupingMade w before n m s.starts s.count z after a → work_end ≤ length z
+      pub all_call_room : {z after : List ℕ} {a : Outcome Grouped} → GroupingMade w before n m r.starts r.count z after a → work_end ≤ length z
       all_call_room made = omega (arith, on.long, on.whole.outside.long, made.outside.long)
 
       -- and is the outcome
-      pub all_call_given : {z after u : List ℕ} {a : Outcome Grouped} → GroupingMade w before n m s.starts s.count z after a → u ≡ cleared z
+      pub all_call_given : {z after u : List ℕ} {a : Outcome Grouped} → GroupingMade w before n m r.starts r.count z after a → u ≡ cleared z
           → ComparedAll (compare_all_with l bytes (length v) (length before)) v before u after a
       all_call_given {after = after} {u} {a} made c =
           subst (λ (o : Groups). ComparedAll o v before u after a) (all_framed (length v) (length before))

@@ -24,12 +24,16 @@ fn compare_all_within(
     ensures { ComparedAll (compare_all_with (limits_of caps) sheet.now (length work.old) (length answer.old))
         work.old answer.old work.new answer.new (outcome_of result) }
 {
-    let set = call_frame::begin_all(sheet, work, caps)?;
+    let set = call_frame::begin_all(sheet, work, caps);
+    let size = match set.begun {
+        Ok(size) => size,
+        Err(refused) => return Err(refused),
+    };
     let answered = set_grouping::group_set(
         work,
         answer,
-        set.size.members,
-        set.size.moves,
+        size.members,
+        size.moves,
         set.starts,
         set.count,
     );

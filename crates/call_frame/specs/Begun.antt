@@ -1,5 +1,5 @@
 -- What a call has once its set was asked for: the set, whole and in order in the work slice, or a refusal.
-use Rattle.std.specs.Prelude.{◌≡◌, Bool, List, ℕ, ◌≤◌, ◌<◌, length, Result, Ok, Err, IfOk}
+use Rattle.std.specs.Prelude.{◌≡◌, Bool, List, ℕ, ◌≤◌, ◌<◌, length, Result, Ok, Err}
 use Rattle.sheet_types.specs.SheetLimits.{max_starts, max_threads}
 use Rattle.sheet_types.specs.Refusals.{large_set, short_work}
 use Rattle.sheet_types.specs.Sheet.{Configuration, Sheet, start}
@@ -46,19 +46,14 @@ pub record StartsListed (ps : List Configuration) (r : AllStarted) : Type 0 wher
   pub few : r.count ≤ max_starts
   pub threads : FewThreads r.starts r.count
 
--- the set alone, of what is given with starts
-abbrev pub all_size : Result AllStarted Refused → Result SetSize Refused
-all_size (Ok s) = Ok s.size
-all_size (Err e) = Err e
+pub record SeedsBegun (l : Limits) (sheet : Sheet) (ps : List Configuration) (v w : List ℕ) (r : AllStarted) : Type 0 where
+  pub begun : BegunAs l sheet ps v w r.begun
+  pub starts : StartsListed ps r
 
-pub record SeedsBegun (l : Limits) (sheet : Sheet) (ps : List Configuration) (v w : List ℕ) (r : Result AllStarted Refused) : Type 0 where
-  pub begun : BegunAs l sheet ps v w (all_size r)
-  pub starts : IfOk r (StartsListed ps)
-
--- of a sheet that was read, two starts being chosen
-pub record ReadBegun (l : Limits) (bytes : List ℕ) (left right : ℕ) (all : Bool) (v w : List ℕ) (r : Result AllStarted Refused) : Type 0 where
-  pub begun : SetBegun (read_choice bytes left right) l (seeds_from all left right) v w (all_size r)
-  pub starts : (sheet : Sheet) (end : ℕ) → read_choice bytes left right ≡ got sheet end → IfOk r (StartsListed (seeds_from all left right sheet))
+-- of a sheet that was read, two starts being chosen; beside a refusal of the sheet or the choice the starts are free
+pub record ReadBegun (l : Limits) (bytes : List ℕ) (left right : ℕ) (all : Bool) (v w : List ℕ) (r : AllStarted) : Type 0 where
+  pub begun : SetBegun (read_choice bytes left right) l (seeds_from all left right) v w r.begun
+  pub starts : (sheet : Sheet) (end : ℕ) → read_choice bytes left right ≡ got sheet end → StartsListed (seeds_from all left right sheet) r
 
 -- ---- two starts
 -- what is had of them
@@ -72,15 +67,11 @@ pub record StartsAre (sheet : Sheet) (left right : ℕ) (r : Started) : Type 0 w
   pub left_few : r.left.count ≤ max_threads
   pub right_few : r.right.count ≤ max_threads
 
-abbrev pub pair_size : Result Started Refused → Result SetSize Refused
-pair_size (Ok s) = Ok s.size
-pair_size (Err e) = Err e
+pub record PairBegun (l : Limits) (bytes : List ℕ) (left right : ℕ) (v w : List ℕ) (r : Started) : Type 0 where
+  pub begun : ChoiceSet l bytes left right v w r.begun
+  pub starts : (sheet : Sheet) (end : ℕ) → read_choice bytes left right ≡ got sheet end → StartsAre sheet left right r
 
-pub record PairBegun (l : Limits) (bytes : List ℕ) (left right : ℕ) (v w : List ℕ) (r : Result Started Refused) : Type 0 where
-  pub begun : ChoiceSet l bytes left right v w (pair_size r)
-  pub starts : (sheet : Sheet) (end : ℕ) → read_choice bytes left right ≡ got sheet end → IfOk r (StartsAre sheet left right)
-
--- ---- all starts
-pub record AllBegun (l : Limits) (bytes v w : List ℕ) (r : Result AllStarted Refused) : Type 0 where
-  pub begun : SetBegun (read_sheet bytes) l (λ sheet. sheet.starts) v w (all_size r)
-  pub starts : (sheet : Sheet) (end : ℕ) → read_sheet bytes ≡ got sheet end → IfOk r (StartsListed sheet.starts)
+-- ---- all starts; beside a refusal of the sheet the starts are free
+pub record AllBegun (l : Limits) (bytes v w : List ℕ) (r : AllStarted) : Type 0 where
+  pub begun : SetBegun (read_sheet bytes) l (λ sheet. sheet.starts) v w r.begun
+  pub starts : (sheet : Sheet) (end : ℕ) → read_sheet bytes ≡ got sheet end → StartsListed sheet.starts r

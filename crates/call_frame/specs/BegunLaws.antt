@@ -1,6 +1,6 @@
 -- What follows of a call's beginning: its outcome where it is refused, whatever it would have done with the set, and what it goes
 -- on with where it is not.
-use Rattle.std.specs.Prelude.{◌≡◌, refl, Bool, true, false, cond, ◌||◌, List, ◌++◌, ℕ, ◌≤◌, ◌<◌, length, get_or, replicate, ltb, Result, Ok, Err, IfOk}
+use Rattle.std.specs.Prelude.{◌≡◌, refl, Bool, true, false, cond, ◌||◌, List, ◌++◌, ℕ, ◌≤◌, ◌<◌, length, get_or, replicate, ltb, Result, Ok, Err}
 use Rattle.std.proofs.Common.{sym, ap, ap₂, ◌∙◌, subst, arith, lt-ltb, le-ltb, ne_eqb}
 use Rattle.work_layout.specs.Frames.{outside_drop}
 use Rattle.collected_moves.specs.Tabulate.{tabulate_length, tabulate_at}
@@ -32,7 +32,7 @@ use Rattle.refusals.specs.declared.Refused.{Refused}
 use Rattle.found_set.specs.declared.SetSize.{SetSize}
 use Rattle.call_frame.specs.declared.Started.{Started}
 use Rattle.call_frame.specs.declared.AllStarted.{AllStarted}
-use Rattle.call_frame.specs.Begun.{BegunSet, BegunRefused, too_short, too_large, BegunAs, SetBegun, by_sheet, by_set, StartsListed, all_size, SeedsBegun, ReadBegun, ChoiceSet, StartsAre, pair_size, PairBegun, AllBegun}
+use Rattle.call_frame.specs.Begun.{BegunSet, BegunRefused, too_short, too_large, BegunAs, SetBegun, by_sheet, by_set, StartsListed, SeedsBegun, ReadBegun, ChoiceSet, StartsAre, PairBegun, AllBegun}
 
 -- ---- how a call begins
 -- a set that passes a limit, and the work slice cleared
@@ -43,43 +43,35 @@ begun_large {v = v} {w} {z} h x e =
 
 -- ---- a refusal of the reader, and a sheet that was read
 module _ (l : Limits) (bytes : List ℕ) (left right : ℕ) (all : Bool) (v : List ℕ) where
-  pub read_refused : {e : Refused} → read_choice bytes left right ≡ refused (number e.refusal) e.place → ReadBegun l bytes left right all v v (Err e)
-  read_refused e = record { begun = by_sheet e refl; starts = λ sheet end f. tt }
+  pub read_refused : {e : Refused} (starts : List Configuration) (count : ℕ) → read_choice bytes left right ≡ refused (number e.refusal) e.place
+      → ReadBegun l bytes left right all v v (record { begun = Err e; starts = starts; count = count })
+  read_refused starts count e = record { begun = by_sheet e refl; starts = λ sheet end f. absurd (got_not_refused (sym f ∙ e)) }
 
-  pub read_begun : {sheet : spec.Sheet} {end : ℕ} {w : List ℕ} {r : Result AllStarted Refused} → read_choice bytes left right ≡ got sheet end
+  pub read_begun : {sheet : spec.Sheet} {end : ℕ} {w : List ℕ} {r : AllStarted} → read_choice bytes left right ≡ got sheet end
       → SeedsBegun l sheet (seeds_from all left right sheet) v w r → ReadBegun l bytes left right all v w r
   read_begun {sheet} {end} {w} {r} e x =
       record {
         begun = by_set sheet end e x.begun;
-        starts = λ other at f. subst (λ (s : spec.Sheet). IfOk r (StartsListed (seeds_from all left right s))) (same_sheet (sym e ∙ f)) x.starts;
+        starts = λ other at f. subst (λ (s : spec.Sheet). StartsListed (seeds_from all left right s) r) (same_sheet (sym e ∙ f)) x.starts;
       }
 
 -- the seeds of a sheet that is held
-pub seeds_refused : {l : Limits} (sheet : Sheet) {ps : List spec.Configuration} {v w : List ℕ} {e : Refused} (seeds : List Configuration) (k : ℕ)
-    → SeedsAre sheet ps seeds k → BegunAs l (sheet_of sheet) (starts_in seeds k) v w (Err e) → SeedsBegun l (sheet_of sheet) ps v w (Err e)
-seeds_refused {l} sheet {v = v} {w} {e} seeds k are x =
-    record { begun = subst (λ (ps : List spec.Configuration). BegunAs l (sheet_of sheet) ps v w (Err e)) are.listed x; starts = tt }
-
-pub seeds_begun : {l : Limits} (sheet : Sheet) {ps : List spec.Configuration} {v w : List ℕ} {size : SetSize} (seeds : List Configuration) (k : ℕ)
-    → SeedsAre sheet ps seeds k → BegunAs l (sheet_of sheet) (starts_in seeds k) v w (Ok size)
-    → SeedsBegun l (sheet_of sheet) ps v w (Ok (record { size = size; starts = seeds; count = k }))
-seeds_begun {l} sheet {v = v} {w} {size} seeds k are x =
+pub seeds_begun : {l : Limits} (sheet : Sheet) {ps : List spec.Configuration} {v w : List ℕ} {r : Result SetSize Refused} (seeds : List Configuration) (k : ℕ)
+    → SeedsAre sheet ps seeds k → BegunAs l (sheet_of sheet) (starts_in seeds k) v w r
+    → SeedsBegun l (sheet_of sheet) ps v w (record { begun = r; starts = seeds; count = k })
+seeds_begun {l} sheet {v = v} {w} {r} seeds k are x =
     record {
-      begun = subst (λ (ps : List spec.Configuration). BegunAs l (sheet_of sheet) ps v w (Ok size)) are.listed x;
+      begun = subst (λ (ps : List spec.Configuration). BegunAs l (sheet_of sheet) ps v w r) are.listed x;
       starts = record { listed = are.listed; held = are.held; few = are.fit.few; threads = record { at = are.fit.threads } };
     }
 
 -- two starts are the first two seeds
-pub pair_refused : {l : Limits} {bytes : List ℕ} {left right : ℕ} {v w : List ℕ} {e : Refused} → ReadBegun l bytes left right false v w (Err e)
-    → PairBegun l bytes left right v w (Err e)
-pair_refused x = record { begun = x.begun; starts = λ sheet end f. tt }
-
-pub pair_begun : {l : Limits} {bytes : List ℕ} {left right : ℕ} {v w : List ℕ} {s : AllStarted} (r : Started) → ReadBegun l bytes left right false v w (Ok s)
-    → r.size ≡ s.size → (d : Configuration) → r.left ≡ get_or s.starts 0 d → r.right ≡ get_or s.starts 1 d
-    → PairBegun l bytes left right v w (Ok r)
+pub pair_begun : {l : Limits} {bytes : List ℕ} {left right : ℕ} {v w : List ℕ} {s : AllStarted} (r : Started) → ReadBegun l bytes left right false v w s
+    → r.begun ≡ s.begun → (d : Configuration) → r.left ≡ get_or s.starts 0 d → r.right ≡ get_or s.starts 1 d
+    → PairBegun l bytes left right v w r
 pair_begun {l} {bytes} {left} {right} {v} {w} {s} r x e d dl dr =
     record {
-      begun = subst (λ (size : SetSize). ChoiceSet l bytes left right v w (Ok size)) (sym e) x.begun;
+      begun = subst (ChoiceSet l bytes left right v w) (sym e) x.begun;
       starts = λ sheet end f. are sheet (x.starts sheet end f);
     }
   where
@@ -99,10 +91,10 @@ pair_begun {l} {bytes} {left} {right} {v} {w} {s} r x e d dl dr =
         }
 
 -- all starts are the seeds where no choice is made
-pub all_begun : {l : Limits} {bytes v w : List ℕ} {r : Result AllStarted Refused} → ReadBegun l bytes 0 0 true v w r → AllBegun l bytes v w r
+pub all_begun : {l : Limits} {bytes v w : List ℕ} {r : AllStarted} → ReadBegun l bytes 0 0 true v w r → AllBegun l bytes v w r
 all_begun {l} {bytes} {v} {w} {r} x =
     record {
-      begun = subst (λ (m : Reading spec.Sheet). SetBegun m l (λ sheet. sheet.starts) v w (all_size r)) (first_choice bytes) x.begun;
+      begun = subst (λ (m : Reading spec.Sheet). SetBegun m l (λ sheet. sheet.starts) v w r.begun) (first_choice bytes) x.begun;
       starts = λ sheet end e. x.starts sheet end (first_choice bytes ∙ e);
     }
 

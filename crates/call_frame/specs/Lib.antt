@@ -9,6 +9,7 @@ pub use Rattle.sheet_reader.specs.RefusalNumbers
 pub use Rattle.sheet_types.specs.Refusals
 pub use Rattle.found_set.specs.Seeds
 pub use Rattle.work_layout.specs.Set
+pub use Rattle.found_set.specs.declared.SetSize
 pub use Rattle.sheet_types.specs.Sheet
 pub use Rattle.sheet_types.specs.SheetBytes
 pub use Rattle.work_layout.specs.WorkLayout

@@ -19,10 +19,10 @@ use refusals::{Refusal, Refused};
 use sheet_types::{Configuration, Sheet};
 use work_layout::WORK_END;
 
-// The numbers of members and of moves of the set that stands in the work slice, with the two starts that were chosen.
+// The numbers of members and of moves of the set that stands in the work slice, or the refusal, with the two starts that were chosen.
 #[derive(Clone, Copy)]
 pub struct Started {
-    pub size: SetSize,
+    pub begun: Result<SetSize, Refused>,
     pub left: Configuration,
     pub right: Configuration,
 }
@@ -30,7 +30,7 @@ pub struct Started {
 // The same with the starts that are the seeds, of which there are `count`.
 #[derive(Clone, Copy)]
 pub struct AllStarted {
-    pub size: SetSize,
+    pub begun: Result<SetSize, Refused>,
     pub starts: [Configuration; 16],
     pub count: usize,
 }
@@ -67,18 +67,18 @@ fn begin_seeds(
     right: usize,
     all: bool,
     caps: Caps,
-) -> Result<AllStarted, Refused>
+) -> AllStarted
     requires { CapsFit caps × ChoiceHeld sheet left right }
     ensures { SeedsBegun (limits_of caps) (sheet_of sheet) (seeds_from all left right (sheet_of sheet)) work.old work.new result }
 {
     let seeds = seeds_of(sheet.starts, left, right, all);
     let count = seed_count(sheet.start_count, all);
-    let size = begin_set(work, sheet, seeds, count, caps)?;
-    Ok(AllStarted {
-        size,
+    let begun = begin_set(work, sheet, seeds, count, caps);
+    AllStarted {
+        begun,
         starts: seeds,
         count,
-    })
+    }
 }
 
 // The set that grows from two starts of the sheet that the bytes are, or from all, within caps. A choice that is not on the sheet is
@@ -90,35 +90,38 @@ fn begin(
     all: bool,
     work: &mut [u32],
     caps: Caps,
-) -> Result<AllStarted, Refused>
+) -> AllStarted
     requires { CapsFit caps }
     ensures { ReadBegun (limits_of caps) sheet.now left right all work.old work.new result }
 {
-    let held = sheet_reader::read_choice(sheet, left, right)?;
+    let held = match sheet_reader::read_choice(sheet, left, right) {
+        Ok(held) => held,
+        Err(refused) => {
+            return AllStarted {
+                begun: Err(refused),
+                starts: [Configuration::EMPTY; 16],
+                count: 0,
+            };
+        }
+    };
     begin_seeds(work, held, left, right, all, caps)
 }
 
 // The set that grows from two starts of the sheet that the bytes are, within caps.
-pub fn begin_pair(
-    sheet: &[u8],
-    left: usize,
-    right: usize,
-    work: &mut [u32],
-    caps: Caps,
-) -> Result<Started, Refused>
+pub fn begin_pair(sheet: &[u8], left: usize, right: usize, work: &mut [u32], caps: Caps) -> Started
     requires { CapsFit caps }
     ensures { PairBegun (limits_of caps) sheet.now left right work.old work.new result }
 {
-    let seeded = begin(sheet, left, right, false, work, caps)?;
-    Ok(Started {
-        size: seeded.size,
+    let seeded = begin(sheet, left, right, false, work, caps);
+    Started {
+        begun: seeded.begun,
         left: seeded.starts[0],
         right: seeded.starts[1],
-    })
+    }
 }
 
 // The set that grows from all starts of the sheet that the bytes are, within caps: every sheet has a first start, so no choice is refused.
-pub fn begin_all(sheet: &[u8], work: &mut [u32], caps: Caps) -> Result<AllStarted, Refused>
+pub fn begin_all(sheet: &[u8], work: &mut [u32], caps: Caps) -> AllStarted
     requires { CapsFit caps }
     ensures { AllBegun (limits_of caps) sheet.now work.old work.new result }
 {
@@ -134,6 +137,6 @@ pub fn set_of_choice(
 ) -> Result<SetSize, Refused>
     ensures { ChoiceSet limits sheet.now left right work.old work.new result }
 {
-    let started = begin_pair(sheet, left, right, work, document_caps())?;
-    Ok(started.size)
+    let started = begin_pair(sheet, left, right, work, document_caps());
+    started.begun
 }

@@ -28,12 +28,16 @@ fn compare_rounds_within(
         (length work.old) (length answer.old))
         work.old answer.old work.new answer.new (outcome_of result) }
 {
-    let set = call_frame::begin_pair(sheet, left, right, work, caps)?;
+    let set = call_frame::begin_pair(sheet, left, right, work, caps);
+    let size = match set.begun {
+        Ok(size) => size,
+        Err(refused) => return Err(refused),
+    };
     let answered = set_rounds::round_set(
         work,
         answer,
-        set.size.members,
-        set.size.moves,
+        size.members,
+        size.moves,
         set.left,
         set.right,
         rounds,

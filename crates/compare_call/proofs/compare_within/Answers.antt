@@ -1,7 +1,6 @@
 -- What the frame refuses is handed up, and leaves the answer slice as it is; on the set that it leaves the report is made, and then
 -- the work slice is cleared.
 use borrow.Author.Rules.{rules}
-use Rattle.std.proofs.lemmas.Result.{err_from_is_err_and}
 use Rattle.call_frame.specs.FoundSet.{limits_of}
 use Rattle.work_layout.specs.Report.{report_on, report_bytes}
 use Rattle.answers.specs.Returned.{returned}
@@ -9,30 +8,28 @@ use Rattle.pair_calls.specs.PairAnswered.{pair_refused, pair_ready, pair_room, p
 use Rattle.compare_call.specs.ComparedLaws.{compared_pair}
 use Rattle.compare_call.proofs.compare_within.Goals as goal
 
-pub returns-in_err-set : goal.returns-in_err-set
-returns-in_err-set c =
-    let pair = c.begin_pair in
+pub returns-in-Err : goal.returns-in-Err
+returns-in-Err c =
+    let pair = c.begin_pair-set in
     let args = c.args in
-    let p = err_from_is_err_and c.from_residual.result c.from_residual.ensures.1 in
-    rw (p.1, p.2)
-    (compared_pair (limits_of args.caps) args.sheet.now args.left args.right
+    compared_pair (limits_of args.caps) args.sheet.now args.left args.right
     (pair_refused report_bytes returned report_on (limits_of args.caps) args.sheet.now args.left args.right args.work.now args.answer.now
-    pair.new.work pair.result pair.ensures c.in_err-set.was))
+    pair.new.work pair.result pair.ensures c.in-Err.is)
 
 pub report_set-answered-requires : goal.report_set-answered-requires
 report_set-answered-requires c =
-    let pair = c.begin_pair in
+    let pair = c.begin_pair-set in
     let args = c.args in
     pair_ready report_bytes returned report_on (limits_of args.caps) args.sheet.now args.left args.right args.work.now args.answer.now
-    pair.new.work pair.result pair.ensures c.in_ok-set.was
+    pair.new.work pair.result pair.ensures c.in-Ok.is
 
 pub returns : goal.returns
 returns c =
-    let pair = c.begin_pair in
+    let pair = c.begin_pair-set in
     let report = c.report_set-answered in
     let clear = c.clear_work in
     let args = c.args in
     compared_pair (limits_of args.caps) args.sheet.now args.left args.right
     (pair_given report_bytes returned report_on (limits_of args.caps) args.sheet.now args.left args.right args.work.now args.answer.now
-    pair.new.work pair.result pair.ensures c.in_ok-set.was
+    pair.new.work pair.result pair.ensures c.in-Ok.is
     report.ensures clear.ensures)

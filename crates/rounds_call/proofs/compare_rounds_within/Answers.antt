@@ -1,7 +1,6 @@
 -- What the frame refuses is handed up, and leaves the answer slice as it is; over the set that it leaves the rounds are made, and then
 -- the work slice is cleared.
 use borrow.Author.Rules.{rules}
-use Rattle.std.proofs.lemmas.Result.{err_from_is_err_and}
 use Rattle.call_frame.specs.FoundSet.{limits_of}
 use Rattle.after_rounds.specs.AfterRounds.{after_bytes}
 use Rattle.after_rounds.specs.AfterRoundsRead.{afters_returned}
@@ -9,30 +8,28 @@ use Rattle.pair_calls.specs.PairAnswered.{pair_refused, pair_ready, pair_room, p
 use Rattle.rounds_call.specs.ComparedRoundsLaws.{made_after, rounds_pair}
 use Rattle.rounds_call.proofs.compare_rounds_within.Goals as goal
 
-pub returns-in_err-set : goal.returns-in_err-set
-returns-in_err-set c =
-    let pair = c.begin_pair in
+pub returns-in-Err : goal.returns-in-Err
+returns-in-Err c =
+    let pair = c.begin_pair-set in
     let args = c.args in
-    let p = err_from_is_err_and c.from_residual.result c.from_residual.ensures.1 in
-    rw (p.1, p.2)
-    (rounds_pair (limits_of args.caps) args.sheet.now args.left args.right args.rounds
+    rounds_pair (limits_of args.caps) args.sheet.now args.left args.right args.rounds
     (pair_refused after_bytes afters_returned (made_after args.rounds) (limits_of args.caps) args.sheet.now args.left args.right args.work.now args.answer.now
-    pair.new.work pair.result pair.ensures c.in_err-set.was))
+    pair.new.work pair.result pair.ensures c.in-Err.is)
 
 pub round_set-answered-requires : goal.round_set-answered-requires
 round_set-answered-requires c =
-    let pair = c.begin_pair in
+    let pair = c.begin_pair-set in
     let args = c.args in
     pair_ready after_bytes afters_returned (made_after args.rounds) (limits_of args.caps) args.sheet.now args.left args.right args.work.now args.answer.now
-    pair.new.work pair.result pair.ensures c.in_ok-set.was
+    pair.new.work pair.result pair.ensures c.in-Ok.is
 
 pub returns : goal.returns
 returns c =
-    let pair = c.begin_pair in
+    let pair = c.begin_pair-set in
     let round = c.round_set-answered in
     let clear = c.clear_work in
     let args = c.args in
     rounds_pair (limits_of args.caps) args.sheet.now args.left args.right args.rounds
     (pair_given after_bytes afters_returned (made_after args.rounds) (limits_of args.caps) args.sheet.now args.left args.right args.work.now args.answer.now
-    pair.new.work pair.result pair.ensures c.in_ok-set.was
+    pair.new.work pair.result pair.ensures c.in-Ok.is
     round.ensures clear.ensures)
